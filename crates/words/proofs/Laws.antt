@@ -1,0 +1,12 @@
+-- The laws of words, links and listings, each said once. Read from the top; a later one uses earlier ones.
+pub mod Cases
+pub mod Xor
+pub mod Nodes
+pub mod Names
+pub mod Pool
+pub mod Chain
+pub mod Part
+pub mod Listing
+pub mod Afresh
+pub mod Between
+pub mod Unique
