@@ -16,9 +16,16 @@ poolLimit = 4096
 unfoldable pub poolFits : ℕ → Bool
 poolFits n = leb n poolLimit
 
--- The name of node i. Null, 0, is no node's.
+-- The name of node i. 0 is no node's.
 abbrev pub name : ℕ → ℕ
 name i = 2 * (i + 1)
+
+-- Null, where a name may stand.
+abbrev pub null : Name
+null = record { 0 = 0 }
+
+abbrev pub isNull : Name → Bool
+isNull w = eqb (w .0) 0
 
 -- The word w is the name of a node below n: even, not null, and not past the last.
 unfoldable pub isName : ℕ → ℕ → Bool
@@ -30,7 +37,7 @@ nodeOf w = w / 2 - 1
 
 -- Naming: the name of a node number, and null for a number whose name is no 32-bit word.
 unfoldable pub naming : Node → Name
-naming i = cond (ltb (name (i .0)) (2 ^ 32)) (record { 0 = name (i .0) }) (record { 0 = 0 })
+naming i = cond (ltb (name (i .0)) (2 ^ 32)) (record { 0 = name (i .0) }) null
 
 -- Decoding: the node below n that a word names, or nothing.
 unfoldable pub decoding : ℕ → Name → Found

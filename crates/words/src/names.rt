@@ -1,7 +1,6 @@
 // Node numbers and names: two kinds of number, each a struct of its own. `Node::to_name` and `Name::decode` lead across.
 ghost use mathlib.Core.Path.{_≡_};
-ghost use lib.Dec.{eqb};
-ghost use Rattle.words.specs.Names.{poolFits, isName, naming, decoding};
+ghost use Rattle.words.specs.Names.{poolFits, isNull, isName, naming, decoding};
 
 // The number of a node: its place in the pool.
 pub struct Node(pub u32);
@@ -42,7 +41,7 @@ impl Name {
     pub const NULL: Name = Name(0);
 
     pub fn is_null(self) -> bool
-        ensures { λ r. ⌜ r ≡ eqb (self .0) 0 ⌝ }
+        ensures { λ r. ⌜ r ≡ isNull self ⌝ }
     {
         self.0 == 0
     }
