@@ -1,0 +1,4 @@
+-- The laws of answers, ends and standing.
+pub mod Ladder
+pub mod Holds
+pub mod Stands
