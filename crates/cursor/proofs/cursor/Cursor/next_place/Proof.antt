@@ -1,0 +1,30 @@
+-- `Cursor::next_place` meets its contract. Assumes nothing.
+use borrow.Author.Needs.{needs}
+use Rattle.cursor.specs.Moves.{movedNext}
+use Rattle.cursor.proofs.cursor.Cursor.next_place.Statement.{statement}
+use Rattle.cursor.proofs.cursor.Cursor.next_place.Tie as tie
+
+is-null-requires : tie.Need-is-null-requires
+is-null-requires c κs = search needs
+
+null-requires : tie.Need-null-requires
+null-requires c κs = search needs
+
+returns : tie.Need-returns
+unfolding movedNext
+returns c = rw (c .null .ensures, ← (c .before .before .is-null .ensures), c .before .if1 .taken)
+
+next-requires : tie.Need-next-requires
+next-requires c κs = search needs
+
+new-requires : tie.Need-new-requires
+new-requires c κs = search needs
+
+returns-2 : tie.Need-returns-2
+unfolding movedNext
+returns-2 c = rw (c .new .ensures, c .before .next .ensures, ← (c .before .before .before .is-null .ensures), c .before .before .if1 .left)
+
+pub next-place-spec : {M : Type 1} → statement M
+next-place-spec =
+    tie.close
+    (tie.spec is-null-requires null-requires returns next-requires new-requires returns-2)
