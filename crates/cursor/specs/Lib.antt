@@ -1,5 +1,3 @@
--- What must be believed of the cursor's calls: their word steps, and the edits of plain sequences that they stand for.
+-- What must be believed of the cursor: its tests, its moves, and the plain sequences and places that they stand for.
 pub mod Cursor
 pub mod Moves
-pub mod Edits
-pub mod Splices

@@ -85,7 +85,7 @@ impl Cursor {
     }
 
     // The tests of a call that takes a node too: 1, 4, 5, 7.
-    pub(crate) fn node_test(self, words: &[u32], ends: Ends, node: Node) -> Answer
+    pub fn node_test(self, words: &[u32], ends: Ends, node: Node) -> Answer
         ensures { λ r. ⌜ r ≡ nodeTest (now (words .entry)) ends self node ⌝ }
     {
         let t = self.stand_test(words, ends);
@@ -99,7 +99,7 @@ impl Cursor {
     }
 
     // The test of a call that wants a node under the cursor, 8, after the others.
-    pub(crate) fn some_test(self, before: Answer) -> Answer
+    pub fn some_test(self, before: Answer) -> Answer
         ensures { λ r. ⌜ r ≡ someTest before self ⌝ }
     {
         if before.is_refused() {
@@ -112,7 +112,7 @@ impl Cursor {
     }
 
     // The tests of a call on two lists: 1, 4 of the named one, 4 of the other, 5.
-    pub(crate) fn pair_test(self, words: &[u32], ends: Ends, other: Ends) -> Answer
+    pub fn pair_test(self, words: &[u32], ends: Ends, other: Ends) -> Answer
         ensures { λ r. ⌜ r ≡ pairTest (now (words .entry)) ends self other ⌝ }
     {
         let t = standing::tests::ends_test(words, ends);
@@ -130,7 +130,7 @@ impl Cursor {
 }
 
 // One of two names.
-pub(crate) fn either(first: bool, x: Name, y: Name) -> Name
+pub fn either(first: bool, x: Name, y: Name) -> Name
     ensures { λ r. ⌜ r ≡ cond first x y ⌝ }
 {
     if first { x } else { y }

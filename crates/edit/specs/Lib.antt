@@ -1,0 +1,2 @@
+-- What must be believed of inserts, remove and replace.
+pub mod Edits

@@ -1,0 +1,2 @@
+-- What must be believed of splices and splits.
+pub mod Splices
