@@ -3,7 +3,7 @@
 
 - every file of Rattle and of antt starts with a comment that says what it is for;
 - a public function has an `ensures`, and no `requires`;
-- each public function has at least two must-fail edits, whose labels begin with its name;
+- each public function has at least two must-fail edits, whose labels begin with its name, or its type's and its name;
 - no proof rests on an axiom of its own, nor on `lem` or `ac`.
 """
 import pathlib
@@ -27,6 +27,12 @@ def public_functions(text):
             owner = None
 
 
+def labels(name):
+    """What the labels of a function's edits may begin with: `next-`, or `link_ops_next-`."""
+    snake = "_".join(re.sub(r"(?<!^)(?=[A-Z])", "_", part).lower() for part in name.split("::"))
+    return (name.split("::")[-1] + "-", snake + "-")
+
+
 for crate in sorted((ROOT / "crates").iterdir()):
     edits = [e.stem for e in crate.glob("must-fail/*.edit")]
     for path in sorted(crate.rglob("*")):
@@ -44,8 +50,7 @@ for crate in sorted((ROOT / "crates").iterdir()):
                     wrong.append(f"{where}: {name} is public and has a requires")
                 if "ensures" not in contract:
                     wrong.append(f"{where}: {name} is public and has no ensures")
-                label = name.split("::")[-1]
-                if sum(e.startswith(label + "-") for e in edits) < 2:
+                if sum(e.startswith(labels(name)) for e in edits) < 2:
                     wrong.append(f"{where}: {name} has fewer than two must-fail edits")
 
 print("\n".join(wrong) if wrong else "the tree is as it should be")

@@ -7,6 +7,8 @@ pub mod Pool
 pub mod Chain
 pub mod Part
 pub mod Listing
+pub mod Outside
 pub mod Afresh
 pub mod Between
+pub mod Cuts
 pub mod Unique

@@ -1,7 +1,7 @@
 -- How much of a pool an edit may change.
 use mathlib.Core.Path.{_≡_}
 use mathlib.Core.List.{List}
-use Prim.Native.Nat.{ℕ}
+use Prim.Native.Nat.{ℕ, _≤_}
 use lib.ListN.{length, getD}
 use Rattle.words.specs.Names.{name}
 use Rattle.words.specs.Listing.{Off}
@@ -10,3 +10,9 @@ use Rattle.words.specs.Listing.{Off}
 pub record Changes (names ws ws' : List ℕ) : Type 0 where
   pub long : length ws' ≡ length ws
   pub same : (i : ℕ) → Off (name i) names → getD ws' i 0 ≡ getD ws i 0
+
+-- At most four words differ, and the pool is as long as it was.
+pub record AtMostFour (ws ws' : List ℕ) : Type 0 where
+  pub names : List ℕ
+  pub few : length names ≤ 4
+  pub changes : Changes names ws ws'

@@ -29,11 +29,11 @@ link-trades ws w p q =
 
 -- ---- how much is changed, for any words and any numbers
 
-changes-trade : (ws : List ℕ) (w old new : ℕ) → Changes (w ∷ []) ws (replaceNextOrPrev ws w old new)
+pub changes-trade : (ws : List ℕ) (w old new : ℕ) → Changes (w ∷ []) ws (replaceNextOrPrev ws w old new)
 unfolding replaceNextOrPrev
 changes-trade ws w old new = changes-put ws w _
 
-changes-set : (ws : List ℕ) (w p q : ℕ) → Changes (w ∷ []) ws (setLink ws w p q)
+pub changes-set : (ws : List ℕ) (w p q : ℕ) → Changes (w ∷ []) ws (setLink ws w p q)
 unfolding setLink
 changes-set ws w p q = changes-put ws w (bitXor p q)
 

@@ -23,6 +23,11 @@ module _ (word : ℕ → ℕ → ℕ) where
   part-listing ws xs h =
       record { distinct = h .distinct; ranged = h .ranged; first = refl; last = refl; chain = h .chain }
 
+  -- the same listing, of words, ends and nodes that are the same
+  pub listing-as : (ws ws' : List ℕ) (h h' t t' : ℕ) (xs xs' : List ℕ) → ws ≡ ws' → h ≡ h' → t ≡ t' → xs ≡ xs'
+      → Listing word ws h t xs → Listing word ws' h' t' xs'
+  listing-as ws ws' h h' t t' xs xs' a b c d l = rw (← a, ← b, ← c, ← d) l
+
   -- the words and the head settle the listing and the tail
   pub listing-unique : Settles word → (ws : List ℕ) (h t t' : ℕ) (xs ys : List ℕ) → Listing word ws h t xs → Listing word ws h t' ys
       → (xs ≡ ys) × (t ≡ t')

@@ -1,9 +1,10 @@
 -- Laws of sequences of nodes: what holds of every one, and what two of them share. Assumes nothing.
-use mathlib.Core.Path.{_≡_, refl, sym}
-use mathlib.Core.Logic.{_≢_, _⊎_, inl, inr}
+use mathlib.Core.Path.{_≡_, refl, sym, subst}
+use mathlib.Core.Logic.{_≢_, _⊎_, inl, inr, ⊎-elim}
 use mathlib.Core.List.{List, [], _∷_, _++_, reverse, reverse-cons}
 use Prim.Native.Nat.{ℕ}
 use Rattle.words.specs.Listing.{All, Off, Distinct, Apart}
+use Rattle.words.proofs.Laws.Cases.{same-or-not}
 
 -- ---- every element
 
@@ -66,3 +67,9 @@ distinct-reverse (x ∷ xs) h =
     rw (reverse-cons x xs)
     (distinct-append (reverse xs) (x ∷ []) (distinct-reverse xs (h .1)) (tt, tt)
     (off-apart x (reverse xs) (all-reverse (λ y. y ≢ x) xs (h .0))))
+
+-- what holds of every element, or else the number is none of them
+pub holds-or-off : (P : ℕ → Type 0) (xs : List ℕ) → All P xs → (j : ℕ) → P j ⊎ Off j xs
+holds-or-off P [] h j = inr tt
+holds-or-off P (x ∷ xs) h j =
+    ⊎-elim (λ e. inl (subst P e (h .0))) (λ ne. ⊎-elim (λ p. inl p) (λ o. inr (ne, o)) (holds-or-off P xs (h .1) j)) (same-or-not x j)

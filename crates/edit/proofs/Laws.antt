@@ -1,0 +1,6 @@
+-- The laws of inserts, remove and replace: on a sound list each does its plain edit, and none changes more than four words.
+pub mod Common
+pub mod Insert
+pub mod Mirror
+pub mod Swap
+pub mod Remove
