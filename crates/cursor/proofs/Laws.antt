@@ -2,3 +2,4 @@
 pub mod Mirror
 pub mod Sound
 pub mod Moves
+pub mod Swap

@@ -2,5 +2,6 @@
 pub mod Common
 pub mod Insert
 pub mod Mirror
-pub mod Swap
 pub mod Remove
+pub mod Replace
+pub mod Few

@@ -1,2 +1,3 @@
 -- What must be believed of splices and splits.
 pub mod Splices
+pub mod Plain

@@ -35,7 +35,7 @@ use Rattle.edit.specs.Edits.{removed, remove}
 use Rattle.edit.specs.Plain.{Plain, plain, unlinking, placeWithout, plainRemove, Does, linkedIn}
 use Rattle.edit.proofs.Laws.Common.{marks-unlinking}
 use Rattle.edit.proofs.Laws.Insert.{refused-does}
-use Rattle.edit.proofs.Laws.Swap.{head-swap, tail-swap, all-out}
+use Rattle.cursor.proofs.Laws.Swap.{head-swap, tail-swap, all-out}
 
 -- the node under a true cursor is handed out
 pub hands-out : (n : ℕ) (w : Name) (x : ℕ) → x < n → w .0 ≡ name x → handing (decoding n w) ≡ Handed (record { 0 = x })

@@ -11,7 +11,7 @@ use Rattle.words.specs.Names.{name}
 use Rattle.words.specs.Listing.{All, Off, Distinct, front, back}
 use Rattle.words.proofs.Laws.Nodes.{all-right, all-left, all-append}
 use Rattle.words.proofs.Laws.Chain.{back-append, lastOf, back-last, all-last}
-use Rattle.standing.proofs.Laws.Holds.{name-other}
+use Rattle.standing.proofs.Laws.Holds.{name-null, name-other}
 
 -- the head: v takes the place of x, if that was the first
 pub head-swap : (L : List ℕ) (x : ℕ) (R : List ℕ) (head current v : Name) → Off x L → head .0 ≡ front (L ++ x ∷ R) 0 → current .0 ≡ name x
@@ -30,3 +30,10 @@ tail-swap L x (y ∷ R) tail current v o t c =
 -- a node of a sequence, taken to its front
 pub all-out : (P : ℕ → Type 0) (L : List ℕ) (x : ℕ) (R : List ℕ) → All P (L ++ x ∷ R) → All P (x ∷ (L ++ R))
 all-out P L x R h = let r = all-right P L (x ∷ R) h in (r .0, all-append P L R (all-left P L (x ∷ R) h) (r .1))
+
+-- the tail of a list that something with the tail v is put in front of
+pub tail-null : (xs : List ℕ) (tail current v : Name) → tail .0 ≡ back 0 xs → current .0 ≡ 0
+    → cond (eqb (tail .0) (current .0)) v tail .0 ≡ back (v .0) xs
+tail-null [] tail current v t c = rw (t, c)
+tail-null (x ∷ xs) tail current v t c =
+    let e : tail .0 ≡ name (lastOf x xs) = t ∙ back-last 0 x xs in rw (e, c, name-null (lastOf x xs)) (sym (back-last (v .0) x xs))
