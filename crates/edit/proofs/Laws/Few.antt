@@ -69,8 +69,8 @@ unfolding insertAfter insertedAfter
 insert-after-few ws e c i =
     let m = naming i .0 in
     let b = isNull (c .current) in
-    unless (isRefused (nodeTest ws e c i)) ws _ _
-    (acquire-steps ws e c (naming i) _ (cond b 0 (c .current .0)) (cond b (e .head .0) (c .next .0)) m
+    unless (isRefused (nodeTest ws e c i)) ws (edited (nodeTest ws e c i) e c) (acquiring ws e c (naming i) (λ l. insertedAfter l e c (naming i)))
+    (acquire-steps ws e c (naming i) (λ l. insertedAfter l e c (naming i)) (cond b 0 (c .current .0)) (cond b (e .head .0) (c .next .0)) m
     (λ l. again _ _ m l _ (at-either b l m 0 (e .head .0) (c .current .0) (c .next .0) _ _)))
 
 pub insert-before-few : (ws : List ℕ) (e : Ends) (c : Cursor) (i : Node) → AtMostFour ws (insertBefore ws e c i .words)
@@ -78,8 +78,8 @@ unfolding insertBefore insertedBefore
 insert-before-few ws e c i =
     let m = naming i .0 in
     let b = isNull (c .current) in
-    unless (isRefused (nodeTest ws e c i)) ws _ _
-    (acquire-steps ws e c (naming i) _ (cond b (e .tail .0) (c .prev .0)) (cond b 0 (c .current .0)) m
+    unless (isRefused (nodeTest ws e c i)) ws (edited (nodeTest ws e c i) e c) (acquiring ws e c (naming i) (λ l. insertedBefore l e c (naming i)))
+    (acquire-steps ws e c (naming i) (λ l. insertedBefore l e c (naming i)) (cond b (e .tail .0) (c .prev .0)) (cond b 0 (c .current .0)) m
     (λ l. again _ _ m l _ (at-either b l m (e .tail .0) 0 (c .prev .0) (c .current .0) _ _)))
 
 pub removed-few : (ws : List ℕ) (e : Ends) (c : Cursor) → AtMostFour ws (removed ws e c .words)
@@ -94,6 +94,6 @@ remove-few ws e c = unless (isRefused (someTest (standTest ws e c) c)) ws _ _ (r
 pub replace-few : (ws : List ℕ) (e : Ends) (c : Cursor) (i : Node) → AtMostFour ws (replace ws e c i .words)
 unfolding replace replaced exchanged
 replace-few ws e c i =
-    unless (isRefused (someTest (nodeTest ws e c i) c)) ws _ _
-    (acquire-steps ws e c (naming i) _ (c .prev .0) (c .next .0) (c .current .0)
+    unless (isRefused (someTest (nodeTest ws e c i) c)) ws (edited (someTest (nodeTest ws e c i) c) e c) (acquiring ws e c (naming i) (λ l. replaced l e c (naming i)))
+    (acquire-steps ws e c (naming i) (λ l. replaced l e c (naming i)) (c .prev .0) (c .next .0) (c .current .0)
     (λ l. exchanged-changes l (naming i .0) (c .current .0) (c .prev .0) (c .next .0)))

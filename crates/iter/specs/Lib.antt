@@ -1,0 +1,3 @@
+-- What must be believed of the iterator.
+pub mod Iter
+pub mod Plain

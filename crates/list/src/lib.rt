@@ -1,0 +1,4 @@
+// Calls on a list by its ends: front, back, push, pop, take, fast clear, reverse, and places by node and neighbour.
+// A refused call changes nothing and hands back the ends that it was given.
+pub mod list;
+pub mod place;

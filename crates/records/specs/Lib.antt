@@ -1,0 +1,2 @@
+-- What must be believed of reading.
+pub mod Records
