@@ -1,5 +1,6 @@
 // `Iter`: four words by value, stepping from both ends until they meet.
-use standing::answer::{Answer, Refusal};
+use standing::answer::Answer;
+use standing::answer::Refusal;
 use standing::ends::Ends;
 use words::link_ops::LinkOps;
 use words::names::Name;
@@ -57,21 +58,36 @@ impl Iter {
         let next_tail = self.next_tail;
         let n = words.len();
         if !words::names::pool_fits(n) {
-            return Stepped { answer: Answer::Refused(Refusal::Size), iter: self };
+            return Stepped {
+                answer: Answer::Refused(Refusal::Size),
+                iter: self,
+            };
         }
         if head.is_null() {
-            return Stepped { answer: Answer::Done, iter: self };
+            return Stepped {
+                answer: Answer::Done,
+                iter: self,
+            };
         }
         if !head.in_range(n) {
-            return Stepped { answer: Answer::Refused(Refusal::NoListing), iter: self };
+            return Stepped {
+                answer: Answer::Refused(Refusal::NoListing),
+                iter: self,
+            };
         }
         let out = Answer::handing(head.decode(n));
         if head.0 == tail.0 {
-            return Stepped { answer: out, iter: Iter::ended() };
+            return Stepped {
+                answer: out,
+                iter: Iter::ended(),
+            };
         }
         let next = LinkOps::next(words, head, prev_head);
         if !next.in_range(n) {
-            return Stepped { answer: Answer::Refused(Refusal::NoListing), iter: self };
+            return Stepped {
+                answer: Answer::Refused(Refusal::NoListing),
+                iter: self,
+            };
         }
         Stepped {
             answer: out,
@@ -91,7 +107,10 @@ impl Iter {
         let r = self.turned().next(words);
         let answer = r.answer;
         let iter = r.iter;
-        Stepped { answer, iter: iter.turned() }
+        Stepped {
+            answer,
+            iter: iter.turned(),
+        }
     }
 
     // Seen from the other side.

@@ -1,11 +1,12 @@
 // `XorLinkedList`: the ends of a list by value, the words lent.
-use cursor::cursor::{Cursor, Edited};
-use standing::answer::{Answer, Refusal};
+use cursor::cursor::Cursor;
+use cursor::cursor::Edited;
+use standing::answer::Answer;
+use standing::answer::Refusal;
 use standing::ends::Ends;
 ghost use mathlib.Core.Path.{_≡_};
 ghost use Rattle.words.specs.Pool.{outcome};
 ghost use Rattle.list.specs.Lists.{front, back, pushFront, pushBack, popTest, popFront, popBack, take, fastClear, reversed};
-
 use words::names::Node;
 
 // What a call on one list hands back.

@@ -1,9 +1,13 @@
 // Places by node and claimed neighbour: `cursor_from_ptr_and_prev` and `cursor_from_ptr_and_next`.
-use cursor::cursor::{Cursor, Edited};
-use standing::answer::{Answer, Refusal};
+use cursor::cursor::Cursor;
+use cursor::cursor::Edited;
+use standing::answer::Answer;
+use standing::answer::Refusal;
 use standing::ends::Ends;
 use words::link_ops::LinkOps;
-use words::names::{Found, Name, Node};
+use words::names::Found;
+use words::names::Name;
+use words::names::Node;
 ghost use mathlib.Core.Path.{_≡_};
 ghost use Rattle.list.specs.Places.{claimed, claimTest, placed, placeByPrev, placeByNext};
 

@@ -8,10 +8,11 @@ use lib.Dec.{eqb}
 use lib.Bits.{bitXor}
 use lib.ListN.{length, getD}
 use borrow.Author.Tests.{eq-eqb}
-use Rattle.words.specs.Names.{name}
+use Rattle.words.specs.Names.{name, isName}
 use Rattle.words.specs.Pool.{wordAt}
 use Rattle.words.specs.LinkOps.{nextOf}
 use Rattle.words.specs.Listing.{All, Off, Distinct, front, back, Chain, Listing}
+use Rattle.words.proofs.Laws.Cases.{both}
 use Rattle.words.proofs.Laws.Xor.{xor-comm, xor-twice-l}
 use Rattle.words.proofs.Laws.Nodes.{all-right, distinct-right, distinct-apart}
 use Rattle.words.proofs.Laws.Names.{name-is}
@@ -19,6 +20,7 @@ use Rattle.words.proofs.Laws.Pool.{word-name}
 use Rattle.words.proofs.Laws.Chain.{lastOf, back-last, all-last, back-append, front-reverse, chain-split}
 use Rattle.words.proofs.Laws.Listing.{xor-listing-reverse}
 use Rattle.standing.specs.declared.ends.Ends.{Ends}
+use Rattle.standing.specs.Ends.{isEmpty}
 use Rattle.standing.specs.Tests.{linkWith, sideHolds, stands}
 use Rattle.standing.proofs.Laws.Holds.{name-null, name-other, front-link, alone, link-with}
 
@@ -105,3 +107,22 @@ stands-at ws e L x R l =
 pub stands-null : (ws : List ℕ) (e : Ends) → stands ws e 0 (e .tail .0) (e .head .0) ≡ true
 unfolding stands
 stands-null ws e = rw (eq-eqb (e .tail .0) (e .tail .0) refl, eq-eqb (e .head .0) (e .head .0) refl)
+
+-- where a cursor that is not at null stands, there is a node
+second : (a i l m n o d w s t : Bool) → (a && i && l && m && n && o && d && w && s && t) ≡ true → i ≡ true
+second a i l m n o d w s t h =
+    let h1 = both (a && i && l && m && n && o && d && w && s) t h .0 in
+    let h2 = both (a && i && l && m && n && o && d && w) s h1 .0 in
+    let h3 = both (a && i && l && m && n && o && d) w h2 .0 in
+    let h4 = both (a && i && l && m && n && o) d h3 .0 in
+    let h5 = both (a && i && l && m && n) o h4 .0 in
+    let h6 = both (a && i && l && m) n h5 .0 in
+    let h7 = both (a && i && l) m h6 .0 in
+    both a i (both (a && i) l h7 .0) .1
+
+pub stands-named : (ws : List ℕ) (e : Ends) (c p q : ℕ) → stands ws e c p q ≡ true → eqb c 0 ≡ false → isName (length ws) c ≡ true
+unfolding stands
+stands-named ws e c p q h n =
+    second (not (isEmpty e)) (isName (length ws) c) (linkWith (length ws) p (eqb c (e .head .0))) (linkWith (length ws) q (eqb c (e .tail .0)))
+    (not (eqb c p)) (not (eqb c q)) (eqb p 0 || not (eqb p q)) (eqb (wordAt ws c) (bitXor p q)) (sideHolds ws c p (e .head .0))
+    (sideHolds ws c q (e .tail .0)) (rw n at h)

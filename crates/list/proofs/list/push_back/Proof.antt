@@ -1,0 +1,21 @@
+-- `push_back` meets its contract. Assumes nothing.
+use borrow.Author.Needs.{needs}
+use Rattle.list.specs.Lists.{pushBack}
+use Rattle.list.proofs.list.push_back.Statement.{statement}
+use Rattle.list.proofs.list.push_back.Tie as tie
+
+null-requires : tie.Need-null-requires
+null-requires c κs = search needs
+
+insert-before-requires : tie.Need-insert-before-requires
+insert-before-requires c κs = search needs
+
+same-length : tie.Need-same-length
+same-length c = search needs
+
+returns : tie.Need-returns
+unfolding pushBack
+returns c = rw (← (c .before .before .before .before .before .null .ensures), ← (c .before .before .before .insert-before .ensures))
+
+pub push-back-spec : {M : Type 1} → statement M
+push-back-spec = tie.close (tie.spec null-requires insert-before-requires same-length returns)

@@ -1,0 +1,26 @@
+-- `reverse` meets its contract. Assumes nothing.
+use borrow.Author.Needs.{needs}
+use Rattle.list.specs.Lists.{reversed}
+use Rattle.list.proofs.list.reverse.Statement.{statement}
+use Rattle.list.proofs.list.reverse.Tie as tie
+
+ends-test-requires : tie.Need-ends-test-requires
+ends-test-requires c κs = search needs
+
+is-refused-requires : tie.Need-is-refused-requires
+is-refused-requires c κs = search needs
+
+returns : tie.Need-returns
+unfolding reversed
+returns c = rw (← (c .before .before .ends-test .ensures), ← (c .before .is-refused .ensures), c .if1 .taken)
+
+turned-requires : tie.Need-turned-requires
+turned-requires c κs = search needs
+
+returns-2 : tie.Need-returns-2
+unfolding reversed
+returns-2 c = rw (← (c .before .before .before .ends-test .ensures), ← (c .before .before .is-refused .ensures), c .before .if1 .left, c .turned .ensures)
+
+pub reverse-spec : {M : Type 1} → statement M
+reverse-spec =
+    tie.close (tie.spec ends-test-requires is-refused-requires returns turned-requires returns-2)
