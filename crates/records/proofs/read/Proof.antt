@@ -1,91 +1,76 @@
+-- `read` meets its contract. Assumes nothing.
+use mathlib.Core.Path.{sym, ap, _∙_}
+use native.Mathlib.Omega.{arith}
+use native.Mathlib.Nat.{add-sub-cancel-left}
 use borrow.Author.Needs.{needs}
+use Rattle.standing.specs.Answer.{isRefused}
+use Rattle.records.specs.Records.{readAt}
+use Rattle.records.proofs.Laws.Read.{readable, located, found-some}
+use Rattle.records.proofs.Laws.Read.{readable, small, within, found-node, found-some}
 use Rattle.records.proofs.read.Statement.{statement}
 use Rattle.records.proofs.read.Tie as tie
-use Rattle.records.proofs.read.Reads as reads
-use Rattle.records.proofs.read.Lts as lts
-use Rattle.cursor.proofs.cursor.Cursor.node.Reads as node-reads
-use Rattle.records.proofs.read_test.Reads as read-test-reads
-use Rattle.standing.proofs.answer.Answer.is_refused.Reads as is-refused-reads
 
--- src/lib.rt:37:9
 read-test-requires : tie.Need-read-test-requires
 read-test-requires c κs = search needs
 
--- src/lib.rt:38:8
 is-refused-requires : tie.Need-is-refused-requires
 is-refused-requires c κs = search needs
 
--- src/lib.rt:39:16
 sub-result : tie.Need-sub-result
 sub-result c = search needs
 
--- src/lib.rt:39:16
 part-result-start : tie.Need-part-result-start
 part-result-start c = search needs
 
--- src/lib.rt:39:16
 part-result-end : tie.Need-part-result-end
 part-result-end c = search needs
 
--- src/lib.rt:39:9
 returns : tie.Need-returns
-returns c = ?
+unfolding readAt
+returns c = rw (← (c .before .before .before .read-test .ensures), ← (c .before .before .is-refused .ensures), c .before .if1 .taken)
 
--- src/lib.rt:41:9
 node-requires : tie.Need-node-requires
 node-requires c κs = search needs
 
--- src/lib.rt:42:19
 enum-known-found : tie.Need-enum-known-found
 enum-known-found c = search needs
 
--- src/lib.rt:43:16
 enum-told : tie.Need-enum-told
 enum-told c = search needs
 
--- src/lib.rt:43:16
 sub-result-2 : tie.Need-sub-result-2
 sub-result-2 c = search needs
 
--- src/lib.rt:43:16
 part-result-start-2 : tie.Need-part-result-start-2
 part-result-start-2 c = search needs
 
--- src/lib.rt:43:16
 part-result-end-2 : tie.Need-part-result-end-2
 part-result-end-2 c = search needs
 
--- src/lib.rt:43:9
 returns-2 : tie.Need-returns-2
-returns-2 c = ?
+returns-2 c = absurd (found-some _ (c .before .before .before .before .before .before .before .before .before .args .cursor) (readable _ _ _ _ _ (ap isRefused (sym (c .before .before .before .before .before .before .read-test .ensures)) ∙ sym (c .before .before .before .before .before .is-refused .ensures) ∙ c .before .before .before .before .if1 .left) .here) (sym (c .before .before .before .node .ensures) ∙ c .before .enum-told .given .1))
 
--- src/lib.rt:45:17
 cast-from : tie.Need-cast-from
 cast-from c = search needs
 
--- src/lib.rt:45:16
 mul-from : tie.Need-mul-from
-mul-from c = ?
+mul-from c = omega (arith, located _ _ _ _ _ _ (ap isRefused (sym (c .before .before .before .before .before .before .before .read-test .ensures)) ∙ sym (c .before .before .before .before .before .before .is-refused .ensures) ∙ c .before .before .before .before .before .if1 .left) (sym (c .before .before .before .before .node .ensures) ∙ c .before .before .found .given .1) .small)
 
--- src/lib.rt:46:14
 add-to : tie.Need-add-to
-add-to c = ?
+add-to c = omega (arith, located _ _ _ _ _ _ (ap isRefused (sym (c .before .before .before .before .before .before .before .read-test .ensures)) ∙ sym (c .before .before .before .before .before .before .is-refused .ensures) ∙ c .before .before .before .before .before .if1 .left) (sym (c .before .before .before .before .node .ensures) ∙ c .before .before .found .given .1) .small, located _ _ _ _ _ _ (ap isRefused (sym (c .before .before .before .before .before .before .before .read-test .ensures)) ∙ sym (c .before .before .before .before .before .before .is-refused .ensures) ∙ c .before .before .before .before .before .if1 .left) (sym (c .before .before .before .before .node .ensures) ∙ c .before .before .found .given .1) .wide)
 
--- src/lib.rt:47:5
 sub-result-3 : tie.Need-sub-result-3
 sub-result-3 c = search needs
 
--- src/lib.rt:47:5
 part-result-start-3 : tie.Need-part-result-start-3
 part-result-start-3 c = search needs
 
--- src/lib.rt:47:5
 part-result-end-3 : tie.Need-part-result-end-3
-part-result-end-3 c = ?
+part-result-end-3 c = omega (arith, located _ _ _ _ _ _ (ap isRefused (sym (c .before .before .before .before .before .before .before .read-test .ensures)) ∙ sym (c .before .before .before .before .before .before .is-refused .ensures) ∙ c .before .before .before .before .before .if1 .left) (sym (c .before .before .before .before .node .ensures) ∙ c .before .before .found .given .1) .inside)
 
--- src/lib.rt:34:1
 returns-3 : tie.Need-returns-3
-returns-3 c = ?
+unfolding readAt
+returns-3 c = rw (← (c .before .before .before .before .before .before .before .before .read-test .ensures), ← (c .before .before .before .before .before .before .before .is-refused .ensures), c .before .before .before .before .before .before .if1 .left, ← (located _ _ _ _ _ _ (ap isRefused (sym (c .before .before .before .before .before .before .before .before .read-test .ensures)) ∙ sym (c .before .before .before .before .before .before .before .is-refused .ensures) ∙ c .before .before .before .before .before .before .if1 .left) (sym (c .before .before .before .before .before .node .ensures) ∙ c .before .before .before .found .given .1) .node), add-sub-cancel-left)
 
 pub read-spec : {M : Type 1} → statement M
 read-spec =

@@ -1,29 +1,31 @@
+-- `records_fit` meets its contract. Assumes nothing.
+use mathlib.Core.Path.{sym, _∙_}
+use native.Mathlib.Omega.{arith}
+use borrow.Author.Tests.{not-true, not-false, lt-leb, le-leb, leb-true}
 use borrow.Author.Needs.{needs}
+use Rattle.words.specs.Names.{poolLimit, poolFits}
+use Rattle.records.specs.Records.{recordsFit}
+use Rattle.records.proofs.Laws.Read.{small-pool}
 use Rattle.records.proofs.records_fit.Statement.{statement}
 use Rattle.records.proofs.records_fit.Tie as tie
-use Rattle.records.proofs.records_fit.Reads as reads
-use Rattle.records.proofs.records_fit.Lts as lts
-use Rattle.words.proofs.names.pool_fits.Reads as pool-fits-reads
 
--- src/lib.rt:14:9
 pool-fits-requires : tie.Need-pool-fits-requires
 pool-fits-requires c κs = search needs
 
--- src/lib.rt:15:9
 returns : tie.Need-returns
-returns c = ?
+unfolding recordsFit
+returns c = rw (← (c .before .pool-fits .ensures), not-true (c .before .pool-fits .result) (c .if1 .taken))
 
--- src/lib.rt:18:9
 returns-2 : tie.Need-returns-2
-returns-2 c = ?
+unfolding recordsFit
+returns-2 c = rw (← (c .before .before .pool-fits .ensures), not-false (c .before .before .pool-fits .result) (c .before .if1 .left), lt-leb _ _ (c .if2 .taken))
 
--- src/lib.rt:20:27
 mul-result : tie.Need-mul-result
-mul-result c = ?
+mul-result c = omega (arith, small-pool _ _ (sym (c .before .before .pool-fits .ensures) ∙ not-false (c .before .before .pool-fits .result) (c .before .if1 .left)) (c .if2 .left))
 
--- src/lib.rt:11:1
 returns-3 : tie.Need-returns-3
-returns-3 c = ?
+unfolding recordsFit
+returns-3 c = rw (← (c .before .before .pool-fits .ensures), not-false (c .before .before .pool-fits .result) (c .before .if1 .left), le-leb _ _ (c .if2 .left))
 
 pub records-fit-spec : {M : Type 1} → statement M
 records-fit-spec = tie.close (tie.spec pool-fits-requires returns returns-2 mul-result returns-3)

@@ -1,0 +1,122 @@
+-- What passing the tests of a read tells, and that the record is there. Assumes nothing.
+use mathlib.Core.Path.{_≡_, refl, sym, ap, _∙_}
+use mathlib.Core.Bool.{Bool, true, false, not, cond, _&&_}
+use mathlib.Core.List.{List, [], _∷_, _++_}
+use Prim.Native.Nat.{ℕ, suc, _+_, _*_, _/_, _-_, _^_, _<_, _≤_}
+use native.Mathlib.Omega.{arith}
+use native.Mathlib.Nat.{mul-le-mul, mul-le-mul-right, suc-mul, mul-comm}
+use lib.Bits.{bitXor}
+use lib.Dec.{ltb, leb, eqb}
+use lib.ListN.{length}
+use borrow.Author.Tests.{ltb-true, leb-true, eqb-true, not-true}
+use Rattle.words.specs.declared.names.Node.{Node}
+use Rattle.words.specs.declared.names.Found.{Found}
+use Rattle.words.specs.declared.names.Found.the-variants.{At, Nothing}
+use Rattle.words.specs.Names.{name, nodeOf, isName, isNull, poolLimit, poolFits, decoding}
+use Rattle.words.specs.Listing.{Listing}
+use Rattle.words.proofs.Laws.Cases.{both}
+use Rattle.words.proofs.Laws.Names.{named-node}
+use Rattle.standing.specs.declared.answer.Refusal.the-variants.{Size, CursorDoesNotStand, AtNull}
+use Rattle.standing.specs.declared.answer.Answer.the-variants.{Done}
+use Rattle.standing.specs.declared.ends.Ends.{Ends}
+use Rattle.standing.specs.Answer.{need, isRefused}
+use Rattle.standing.specs.Tests.{endsTest}
+use Rattle.standing.proofs.Laws.Ladder.{passed, passed-both}
+use Rattle.standing.proofs.Laws.Stands.{stands-named}
+use Rattle.cursor.specs.declared.cursor.Cursor.{Cursor}
+use Rattle.cursor.specs.Cursor.{cursorStands, standTest, someTest}
+use Rattle.records.specs.Records.{recordsFit, readTest}
+
+-- sizes that fit
+pub record Fits (n width len : ℕ) : Type 0 where
+  pub pool : n ≤ 4096
+  pub wide : width ≤ 256
+  pub some : 0 < width
+  pub long : len ≡ width * n
+
+pub fits : (n width len : ℕ) → recordsFit n width len ≡ true → Fits n width len
+unfolding recordsFit poolFits poolLimit
+fits n width len h =
+    let a = both (leb n 4096 && leb width 256) (ltb 0 width && eqb len (width * n)) h in
+    let b = both (leb n 4096) (leb width 256) (a .0) in
+    let d = both (ltb 0 width) (eqb len (width * n)) (a .1) in
+    record {
+      pool = leb-true n 4096 (b .0);
+      wide = leb-true width 256 (b .1);
+      some = ltb-true 0 width (d .0);
+      long = eqb-true len (width * n) (d .1);
+    }
+
+-- a read that is not refused
+pub record Readable (ws : List ℕ) (c : Cursor) (len width : ℕ) : Type 0 where
+  pub sizes : Fits (length ws) width len
+  pub here : isName (length ws) (c .current .0) ≡ true
+
+pub readable : (ws : List ℕ) (e : Ends) (c : Cursor) (len width : ℕ) → isRefused (readTest ws e c len width) ≡ false → Readable ws c len width
+unfolding readTest someTest standTest
+readable ws e c len width h =
+    let at-node = need (not (isNull (c .current))) AtNull Done in
+    let standing = need (cursorStands ws e c) CursorDoesNotStand Done in
+    let a = passed (recordsFit (length ws) width len) Size (someTest (standTest ws e c) c) h in
+    let b = passed-both (standTest ws e c) at-node (a .1) in
+    let d = passed (not (isNull (c .current))) AtNull Done (b .1) in
+    let k = passed-both (endsTest ws e) standing (b .0) in
+    let s = passed (cursorStands ws e c) CursorDoesNotStand Done (k .1) in
+    record {
+      sizes = fits (length ws) width len (a .0);
+      here = stands-named ws e (c .current .0) (c .prev .0) (c .next .0) (s .0) (not-true (isNull (c .current)) (d .0));
+    }
+
+-- the product of sizes that fit is small
+pub small : (n width i : ℕ) → n ≤ 4096 → width ≤ 256 → i ≤ n → i * width ≤ 1048576
+small n width i p q r = let k = mul-le-mul {n₁ = i} {m₁ = width} {n₂ = 4096} {m₂ = 256} (omega arith) q in omega arith
+
+-- the record of a node is within the records
+pub within : (n width len i : ℕ) → len ≡ width * n → i < n → i * width + width ≤ len
+within n width len i e h =
+    let k = mul-le-mul-right {m = suc i} {n = n} width h in
+    let a = suc-mul i width in
+    let b = mul-comm n width in
+    omega arith
+
+-- the node found is the one under the cursor
+pub found-node : (n : ℕ) (c : Cursor) (i : Node) → isName n (c .current .0) ≡ true → decoding n (c .current) ≡ At i → i .0 ≡ nodeOf (c .current .0)
+unfolding decoding
+found-node n c i h e = let k = rw h at e in sym (ap number k)
+  where
+    number : Found → ℕ
+    number (At j) = j .0
+    number Nothing = 0
+
+pub found-some : (n : ℕ) (c : Cursor) → isName n (c .current .0) ≡ true → decoding n (c .current) ≡ Nothing → ⊥
+unfolding decoding
+found-some n c h e = let z : _≡_ {A = ℕ} 1 0 = ap one (rw h at e) in omega arith
+  where
+    one : Found → ℕ
+    one (At j) = 1
+    one Nothing = 0
+
+-- so that the product fits a word
+pub small-pool : (n width : ℕ) → poolFits n ≡ true → width ≤ 256 → width * n < 2 ^ 64
+unfolding poolFits poolLimit
+small-pool n width f w = let p = leb-true n 4096 f in let k = small n width n p w (omega arith) in let e = mul-comm n width in omega arith
+
+-- where the record of an accepted read is
+pub record Located (ws : List ℕ) (c : Cursor) (len width : ℕ) (i : Node) : Type 0 where
+  pub node : i .0 ≡ nodeOf (c .current .0)
+  pub small : i .0 * width ≤ 1048576
+  pub wide : width ≤ 256
+  pub inside : i .0 * width + width ≤ len
+
+pub located : (ws : List ℕ) (e : Ends) (c : Cursor) (len width : ℕ) (i : Node) → isRefused (readTest ws e c len width) ≡ false
+    → decoding (length ws) (c .current) ≡ At i → Located ws c len width i
+located ws e c len width i h d =
+    let r = readable ws e c len width h in
+    let k = found-node (length ws) c i (r .here) d in
+    let b : i .0 < length ws = rw k (named-node (length ws) (c .current .0) (r .here)) in
+    record {
+      node = k;
+      small = small (length ws) width (i .0) (r .sizes .pool) (r .sizes .wide) (omega arith);
+      wide = r .sizes .wide;
+      inside = within (length ws) width len (i .0) (r .sizes .long) b;
+    }
