@@ -1,5 +1,4 @@
 -- What must be believed of the calls on a list by its ends.
 pub mod Lists
 pub mod Places
-
--- pub mod Plain
+pub mod Plain

@@ -1,0 +1,2 @@
+-- The laws of the iterator.
+pub mod Steps
