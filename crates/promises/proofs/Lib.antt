@@ -1,0 +1,2 @@
+-- The proofs of what is promised.
+pub mod Nine
