@@ -1,5 +1,6 @@
 // `Link` and `LinkOps`, the xor half: a link is a word of the pool, reached by its node's name.
 // At null and at a word that is no name in range there is no link: a read gives 0, and a store does nothing.
+use crate::names::Found;
 use crate::names::Name;
 ghost use mathlib.Core.Path.{_≡_};
 ghost use Rattle.words.specs.Names.{isLinked};
@@ -34,21 +35,24 @@ impl LinkOps {
     pub fn get(words: &[u32], ptr: Name) -> Link
         ensures { λ r. ⌜ r ≡ record { 0 = wordAt (now (words .entry)) (ptr .0) } ⌝ }
     {
-        if ptr.in_range(words.len()) {
-            let i = (ptr.0 / 2 - 1) as usize;
-            return Link(words[i]);
-        }
-        Link(0)
+        let found = ptr.decode(words.len());
+        let Found::At(node) = found else {
+            return Link(0);
+        };
+        let i = node.0 as usize;
+        Link(words[i])
     }
 
     // Stores a packed word in a node, by the node's name.
     fn put(words: &mut [u32], ptr: Name, packed: u32)
         ensures { λ _. ⌜ now (words .exit) ≡ putAt (now (words .entry)) (ptr .0) packed ⌝ }
     {
-        if ptr.in_range(words.len()) {
-            let i = (ptr.0 / 2 - 1) as usize;
-            words[i] = packed;
-        }
+        let found = ptr.decode(words.len());
+        let Found::At(node) = found else {
+            return;
+        };
+        let i = node.0 as usize;
+        words[i] = packed;
     }
 
     pub fn is_linked(words: &[u32], ptr: Name) -> bool

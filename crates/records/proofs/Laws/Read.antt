@@ -10,18 +10,17 @@ use lib.Dec.{ltb, leb, eqb}
 use lib.ListN.{length}
 use borrow.Author.Tests.{ltb-true, leb-true, eqb-true, not-true}
 use Rattle.words.specs.declared.names.Node.{Node}
-use Rattle.words.specs.declared.names.Found.{Found}
 use Rattle.words.specs.declared.names.Found.the-variants.{At, Nothing}
 use Rattle.words.specs.Names.{name, nodeOf, isName, isNull, poolLimit, poolFits, decoding}
 use Rattle.words.specs.Listing.{Listing}
 use Rattle.words.proofs.Laws.Cases.{both}
-use Rattle.words.proofs.Laws.Names.{named-node}
+use Rattle.words.proofs.Laws.Names.{decoded, undecoded}
 use Rattle.standing.specs.declared.answer.Refusal.the-variants.{Size, CursorDoesNotStand, AtNull}
 use Rattle.standing.specs.declared.answer.Answer.the-variants.{Done}
 use Rattle.standing.specs.declared.ends.Ends.{Ends}
 use Rattle.standing.specs.Answer.{need, isRefused}
 use Rattle.standing.specs.Tests.{endsTest}
-use Rattle.standing.proofs.Laws.Ladder.{passed, passed-both}
+use Rattle.standing.proofs.Laws.Ladder.{not-both, passed, passed-both}
 use Rattle.standing.proofs.Laws.Stands.{stands-named}
 use Rattle.cursor.specs.declared.cursor.Cursor.{Cursor}
 use Rattle.cursor.specs.Cursor.{cursorStands, standTest, someTest}
@@ -79,23 +78,6 @@ within n width len i e h =
     let b = mul-comm n width in
     omega arith
 
--- the node found is the one under the cursor
-pub found-node : (n : ℕ) (c : Cursor) (i : Node) → isName n (c .current .0) ≡ true → decoding n (c .current) ≡ At i → i .0 ≡ nodeOf (c .current .0)
-unfolding decoding
-found-node n c i h e = let k = rw h at e in sym (ap number k)
-  where
-    number : Found → ℕ
-    number (At j) = j .0
-    number Nothing = 0
-
-pub found-some : (n : ℕ) (c : Cursor) → isName n (c .current .0) ≡ true → decoding n (c .current) ≡ Nothing → ⊥
-unfolding decoding
-found-some n c h e = let z : _≡_ {A = ℕ} 1 0 = ap one (rw h at e) in omega arith
-  where
-    one : Found → ℕ
-    one (At j) = 1
-    one Nothing = 0
-
 -- so that the product fits a word
 pub small-pool : (n width : ℕ) → poolFits n ≡ true → width ≤ 256 → width * n < 2 ^ 64
 unfolding poolFits poolLimit
@@ -112,11 +94,17 @@ pub located : (ws : List ℕ) (e : Ends) (c : Cursor) (len width : ℕ) (i : Nod
     → decoding (length ws) (c .current) ≡ At i → Located ws c len width i
 located ws e c len width i h d =
     let r = readable ws e c len width h in
-    let k = found-node (length ws) c i (r .here) d in
-    let b : i .0 < length ws = rw k (named-node (length ws) (c .current .0) (r .here)) in
+    let k = decoded (length ws) (c .current) i d in
+    let b = k .below in
     record {
-      node = k;
+      node = k .node;
       small = small (length ws) width (i .0) (r .sizes .pool) (r .sizes .wide) (omega arith);
       wide = r .sizes .wide;
       inside = within (length ws) width len (i .0) (r .sizes .long) b;
     }
+
+-- and there is one
+pub never-nothing : (ws : List ℕ) (e : Ends) (c : Cursor) (len width : ℕ) → isRefused (readTest ws e c len width) ≡ false
+    → decoding (length ws) (c .current) ≡ Nothing → ⊥
+never-nothing ws e c len width h d =
+    not-both (sym (readable ws e c len width h .here) ∙ undecoded (length ws) (c .current) d)

@@ -5,8 +5,8 @@ use native.Mathlib.Nat.{add-sub-cancel-left}
 use borrow.Author.Needs.{needs}
 use Rattle.standing.specs.Answer.{isRefused}
 use Rattle.records.specs.Records.{readAt}
-use Rattle.records.proofs.Laws.Read.{readable, located, found-some}
-use Rattle.records.proofs.Laws.Read.{readable, small, within, found-node, found-some}
+use Rattle.records.proofs.Laws.Read.{located, never-nothing}
+use Rattle.records.proofs.Laws.Read.{located, never-nothing}
 use Rattle.records.proofs.read.Statement.{statement}
 use Rattle.records.proofs.read.Tie as tie
 
@@ -48,7 +48,13 @@ part-result-end-2 : tie.Need-part-result-end-2
 part-result-end-2 c = search needs
 
 returns-2 : tie.Need-returns-2
-returns-2 c = absurd (found-some _ (c .before .before .before .before .before .before .before .before .before .args .cursor) (readable _ _ _ _ _ (ap isRefused (sym (c .before .before .before .before .before .before .read-test .ensures)) ∙ sym (c .before .before .before .before .before .is-refused .ensures) ∙ c .before .before .before .before .if1 .left) .here) (sym (c .before .before .before .node .ensures) ∙ c .before .enum-told .given .1))
+returns-2 c =
+    absurd
+    (never-nothing _ _ (c .before .before .before .before .before .before .before .before .before .args .cursor) _ _
+    (ap isRefused (sym (c .before .before .before .before .before .before .read-test .ensures))
+    ∙ sym (c .before .before .before .before .before .is-refused .ensures)
+    ∙ c .before .before .before .before .if1 .left)
+    (sym (c .before .before .before .node .ensures) ∙ c .before .enum-told .given .1))
 
 cast-from : tie.Need-cast-from
 cast-from c = search needs

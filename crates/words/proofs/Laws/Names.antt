@@ -6,7 +6,11 @@ use Prim.Native.Nat.{ℕ, zero, suc, _+_, _*_, _/_, _%_, _-_, _<_, _≤_}
 use native.Mathlib.Omega.{arith}
 use lib.Dec.{ltb, leb, eqb}
 use borrow.Author.Tests.{lt-ltb, le-leb, lt-leb, eq-eqb, ne-eqb, ltb-true, leb-true, eqb-true}
-use Rattle.words.specs.Names.{name, nodeOf, isName}
+use Rattle.words.specs.declared.names.Node.{Node}
+use Rattle.words.specs.declared.names.Name.{Name}
+use Rattle.words.specs.declared.names.Found.{Found}
+use Rattle.words.specs.declared.names.Found.the-variants.{At, Nothing}
+use Rattle.words.specs.Names.{name, nodeOf, isName, decoding}
 use Rattle.words.proofs.Laws.Cases.{both}
 
 -- ---- a name
@@ -58,3 +62,39 @@ named-name n w h = let k = named n w h in omega arith
 
 pub named-node : (n w : ℕ) → isName n w ≡ true → nodeOf w < n
 named-node n w h = let k = named n w h in omega arith
+
+-- ---- decoding
+
+-- a node that was decoded is in range, and the one that is named
+pub record Decoded (n : ℕ) (w : Name) (i : Node) : Type 0 where
+  pub here : isName n (w .0) ≡ true
+  pub node : i .0 ≡ nodeOf (w .0)
+  pub below : i .0 < n
+
+nodeIn : Found → ℕ
+nodeIn (At i) = i .0
+nodeIn Nothing = 0
+
+isAt : Found → Bool
+isAt (At i) = true
+isAt Nothing = false
+
+decoded-named : (n : ℕ) (w : Name) (f : Found) → decoding n w ≡ f → isName n (w .0) ≡ isAt f
+unfolding decoding isAt
+decoded-named n w f e = go (isName n (w .0)) refl
+  where
+    go : (b : Bool) → isName n (w .0) ≡ b → isName n (w .0) ≡ isAt f
+    go true h = h ∙ ap isAt (rw h at e)
+    go false h = h ∙ ap isAt (rw h at e)
+
+pub decoded : (n : ℕ) (w : Name) (i : Node) → decoding n w ≡ At i → Decoded n w i
+unfolding decoding nodeIn isAt
+decoded n w i e =
+    let h : isName n (w .0) ≡ true = decoded-named n w (At i) e in
+    let k : nodeOf (w .0) ≡ i .0 = ap nodeIn (rw h at e) in
+    let b = named-node n (w .0) h in
+    record { here = h; node = sym k; below = rw (← k) b }
+
+pub undecoded : (n : ℕ) (w : Name) → decoding n w ≡ Nothing → isName n (w .0) ≡ false
+unfolding isAt
+undecoded n w e = decoded-named n w Nothing e
