@@ -27,3 +27,12 @@ abbrev pub iterRun : List ℕ → List Bool → Iter → List Answer
 iterRun ws [] it = []
 iterRun ws (true ∷ bs) it = next ws it .answer ∷ iterRun ws bs (next ws it .iter)
 iterRun ws (false ∷ bs) it = nextBack ws it .answer ∷ iterRun ws bs (nextBack ws it .iter)
+
+-- As many steps as there are nodes, all from the one side; and all the nodes handed out in order.
+abbrev pub steps : Bool → List ℕ → List Bool
+steps b [] = []
+steps b (x ∷ xs) = b ∷ steps b xs
+
+abbrev pub handedAll : List ℕ → List Answer
+handedAll [] = []
+handedAll (x ∷ xs) = Handed (record { 0 = x }) ∷ handedAll xs

@@ -8,7 +8,7 @@ use Rattle.words.specs.declared.names.Name.{Name}
 use Rattle.words.specs.declared.names.Found.{Found}
 use Rattle.words.specs.declared.names.Found.the-variants.{At, Nothing}
 
--- The most nodes that a pool may have. This is the only place that says so.
+-- The most nodes that a pool may have. No other definition says so.
 unfoldable pub poolLimit : ℕ
 poolLimit = 4096
 

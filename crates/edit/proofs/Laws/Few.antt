@@ -10,7 +10,7 @@ use Rattle.words.specs.Names.{isNull, naming}
 use Rattle.words.specs.Pool.{putAt, Outcome, outcome}
 use Rattle.words.specs.LinkOps.{linkedAt, acquireLink, linkBetween}
 use Rattle.words.specs.Changes.{Changes, AtMostFour}
-use Rattle.words.proofs.Laws.Pool.{changes-none, changes-put}
+use Rattle.words.proofs.Laws.Pool.{changes-put, few-unless}
 use Rattle.words.proofs.Laws.Between.{link-changes}
 use Rattle.words.proofs.Laws.Cuts.{takenOut, taken-changes, exchanged, exchanged-changes}
 use Rattle.standing.specs.declared.answer.Refusal.the-variants.{AlreadyLinked}
@@ -21,14 +21,6 @@ use Rattle.cursor.specs.declared.cursor.Cursor.{Cursor}
 use Rattle.cursor.specs.declared.cursor.Edited.{Edited}
 use Rattle.cursor.specs.Cursor.{edited, standTest, nodeTest, someTest}
 use Rattle.edit.specs.Edits.{acquiring, insertedAfter, insertedBefore, insertAfter, insertBefore, removed, remove, replaced, replace}
-
-none : (ws : List ℕ) → AtMostFour ws ws
-none ws = record { names = []; few = lit≤ tt; changes = changes-none ws }
-
--- a call that may be refused
-unless : (b : Bool) (ws : List ℕ) (r : Edited) (o : Outcome Edited) → AtMostFour ws (o .words) → AtMostFour ws (cond b (outcome ws r) o .words)
-unless true ws r o k = none ws
-unless false ws r o k = k
 
 -- a node is acquired at one word
 acquired : (ws : List ℕ) (w : ℕ) → Changes (w ∷ []) ws (acquireLink ws w .words)
@@ -69,7 +61,7 @@ unfolding insertAfter insertedAfter
 insert-after-few ws e c i =
     let m = naming i .0 in
     let b = isNull (c .current) in
-    unless (isRefused (nodeTest ws e c i)) ws (edited (nodeTest ws e c i) e c) (acquiring ws e c (naming i) (λ l. insertedAfter l e c (naming i)))
+    few-unless (isRefused (nodeTest ws e c i)) ws (edited (nodeTest ws e c i) e c) (acquiring ws e c (naming i) (λ l. insertedAfter l e c (naming i)))
     (acquire-steps ws e c (naming i) (λ l. insertedAfter l e c (naming i)) (cond b 0 (c .current .0)) (cond b (e .head .0) (c .next .0)) m
     (λ l. again _ _ m l _ (at-either b l m 0 (e .head .0) (c .current .0) (c .next .0) _ _)))
 
@@ -78,7 +70,7 @@ unfolding insertBefore insertedBefore
 insert-before-few ws e c i =
     let m = naming i .0 in
     let b = isNull (c .current) in
-    unless (isRefused (nodeTest ws e c i)) ws (edited (nodeTest ws e c i) e c) (acquiring ws e c (naming i) (λ l. insertedBefore l e c (naming i)))
+    few-unless (isRefused (nodeTest ws e c i)) ws (edited (nodeTest ws e c i) e c) (acquiring ws e c (naming i) (λ l. insertedBefore l e c (naming i)))
     (acquire-steps ws e c (naming i) (λ l. insertedBefore l e c (naming i)) (cond b (e .tail .0) (c .prev .0)) (cond b 0 (c .current .0)) m
     (λ l. again _ _ m l _ (at-either b l m (e .tail .0) 0 (c .prev .0) (c .current .0) _ _)))
 
@@ -94,6 +86,6 @@ remove-few ws e c = unless (isRefused (someTest (standTest ws e c) c)) ws _ _ (r
 pub replace-few : (ws : List ℕ) (e : Ends) (c : Cursor) (i : Node) → AtMostFour ws (replace ws e c i .words)
 unfolding replace replaced exchanged
 replace-few ws e c i =
-    unless (isRefused (someTest (nodeTest ws e c i) c)) ws (edited (someTest (nodeTest ws e c i) c) e c) (acquiring ws e c (naming i) (λ l. replaced l e c (naming i)))
+    few-unless (isRefused (someTest (nodeTest ws e c i) c)) ws (edited (someTest (nodeTest ws e c i) c) e c) (acquiring ws e c (naming i) (λ l. replaced l e c (naming i)))
     (acquire-steps ws e c (naming i) (λ l. replaced l e c (naming i)) (c .prev .0) (c .next .0) (c .current .0)
     (λ l. exchanged-changes l (naming i .0) (c .current .0) (c .prev .0) (c .next .0)))

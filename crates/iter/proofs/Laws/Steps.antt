@@ -2,7 +2,7 @@
 use mathlib.Core.Path.{_≡_, refl, sym, ap, _∙_}
 use mathlib.Core.Logic.{_≢_}
 use mathlib.Core.Bool.{Bool, true, false, cond}
-use mathlib.Core.List.{List, [], _∷_, _++_, reverse, reverse-cons, reverse-append, append-assoc, append-nil}
+use mathlib.Core.List.{List, [], _∷_, _++_, reverse, reverse-cons, reverse-append, reverse-reverse, append-assoc, append-nil}
 use Prim.Native.Nat.{ℕ, _+_, _*_, _<_}
 use lib.Bits.{bitXor}
 use lib.Dec.{eqb}
@@ -26,7 +26,7 @@ use Rattle.standing.specs.Answer.{handing}
 use Rattle.standing.proofs.Laws.Holds.{name-null, name-other}
 use Rattle.iter.specs.declared.Iter.{Iter}
 use Rattle.iter.specs.Iter.{iterOf, over, turnedIter, stepped, next, nextBack}
-use Rattle.iter.specs.Plain.{first, rest, plainRun, iterRun}
+use Rattle.iter.specs.Plain.{first, rest, plainRun, iterRun, steps, handedAll}
 
 abbrev Some : List ℕ → Type 0
 Some [] = ⊥
@@ -182,3 +182,25 @@ iterates ws e xs bs f l =
       ahead = λ s. refl;
       behind = λ s. refl;
     })
+
+-- ---- from one side alone
+
+plain-forward : (xs : List ℕ) → plainRun (steps true xs) xs ≡ handedAll xs
+plain-forward [] = refl
+plain-forward (x ∷ xs) = both _ _ _ _ refl (plain-forward xs)
+
+plain-backward : (ys : List ℕ) → plainRun (steps false ys) (reverse ys) ≡ handedAll ys
+plain-backward [] = refl
+plain-backward (y ∷ ys) = rw (reverse-reverse (y ∷ ys)) (both _ _ _ _ refl (plain-backward ys))
+
+-- forward, the sequence
+pub forward : (ws : List ℕ) (e : Ends) (xs : List ℕ) → poolFits (length ws) ≡ true → Listing bitXor ws (e .head .0) (e .tail .0) xs
+    → iterRun ws (steps true xs) (iterOf e) ≡ handedAll xs
+forward ws e xs f l = iterates ws e xs (steps true xs) f l ∙ plain-forward xs
+
+-- backward, its reverse
+pub backward : (ws : List ℕ) (e : Ends) (xs : List ℕ) → poolFits (length ws) ≡ true → Listing bitXor ws (e .head .0) (e .tail .0) xs
+    → iterRun ws (steps false (reverse xs)) (iterOf e) ≡ handedAll (reverse xs)
+backward ws e xs f l =
+    iterates ws e xs (steps false (reverse xs)) f l
+    ∙ ap (plainRun (steps false (reverse xs))) (sym (reverse-reverse xs)) ∙ plain-backward (reverse xs)

@@ -2,11 +2,10 @@
 use mathlib.Core.Bool.{Bool, true, false, cond}
 use mathlib.Core.List.{List, []}
 use Prim.Native.Nat.{ℕ}
-use lib.Dec.{lit≤}
 use Rattle.words.specs.declared.names.Node.{Node}
 use Rattle.words.specs.Pool.{Outcome, outcome}
 use Rattle.words.specs.Changes.{AtMostFour}
-use Rattle.words.proofs.Laws.Pool.{changes-none}
+use Rattle.words.proofs.Laws.Pool.{few-unless}
 use Rattle.standing.specs.declared.ends.Ends.{Ends}
 use Rattle.standing.specs.Answer.{isRefused}
 use Rattle.cursor.specs.Cursor.{nullCursor}
@@ -15,10 +14,6 @@ use Rattle.edit.specs.Edits.{removed}
 use Rattle.edit.proofs.Laws.Few.{insert-after-few, insert-before-few, removed-few}
 use Rattle.list.specs.declared.list.Listed.{Listed}
 use Rattle.list.specs.Lists.{listed, withoutCursor, pushFront, pushBack, popTest, popFront, popBack}
-
-unless : (b : Bool) (ws : List ℕ) (r : Listed) (o : Outcome Listed) → AtMostFour ws (o .words) → AtMostFour ws (cond b (outcome ws r) o .words)
-unless true ws r o k = record { names = []; few = lit≤ tt; changes = changes-none ws }
-unless false ws r o k = k
 
 pub push-front-few : (ws : List ℕ) (e : Ends) (i : Node) → AtMostFour ws (pushFront ws e i .words)
 unfolding pushFront
@@ -31,11 +26,11 @@ push-back-few ws e i = insert-before-few ws e (nullCursor e) i
 pub pop-front-few : (ws : List ℕ) (e : Ends) → AtMostFour ws (popFront ws e .words)
 unfolding popFront
 pop-front-few ws e =
-    unless (isRefused (popTest ws e)) ws (listed (popTest ws e) e) (withoutCursor (removed ws e (movedNext ws e (nullCursor e))))
+    few-unless (isRefused (popTest ws e)) ws (listed (popTest ws e) e) (withoutCursor (removed ws e (movedNext ws e (nullCursor e))))
     (removed-few ws e (movedNext ws e (nullCursor e)))
 
 pub pop-back-few : (ws : List ℕ) (e : Ends) → AtMostFour ws (popBack ws e .words)
 unfolding popBack
 pop-back-few ws e =
-    unless (isRefused (popTest ws e)) ws (listed (popTest ws e) e) (withoutCursor (removed ws e (movedPrev ws e (nullCursor e))))
+    few-unless (isRefused (popTest ws e)) ws (listed (popTest ws e) e) (withoutCursor (removed ws e (movedPrev ws e (nullCursor e))))
     (removed-few ws e (movedPrev ws e (nullCursor e)))

@@ -7,7 +7,7 @@ use lib.Dec.{lit≤}
 use Rattle.words.specs.Names.{isNull}
 use Rattle.words.specs.Pool.{Outcome, outcome}
 use Rattle.words.specs.Changes.{Changes, AtMostFour}
-use Rattle.words.proofs.Laws.Pool.{changes-none, changes-then}
+use Rattle.words.proofs.Laws.Pool.{changes-then, few-unless}
 use Rattle.words.proofs.Laws.Between.{splice-changes, changes-trade, changes-set}
 use Rattle.standing.specs.declared.ends.Ends.{Ends}
 use Rattle.standing.specs.Answer.{isRefused}
@@ -17,18 +17,10 @@ use Rattle.cursor.specs.declared.cursor.Parted.{Parted}
 use Rattle.cursor.specs.Cursor.{pairTest, splitTest}
 use Rattle.splice.specs.Splices.{splicedAfter, splicedBefore, spliceAfter, spliceBefore, cutAfter, cutBefore, splitAfter, splitBefore}
 
-none : (ws : List ℕ) → AtMostFour ws ws
-none ws = record { names = []; few = lit≤ tt; changes = changes-none ws }
-
--- a call that may leave everything
-unless : (b : Bool) (ws : List ℕ) (r : Parted) (o : Outcome Parted) → AtMostFour ws (o .words) → AtMostFour ws (cond b (outcome ws r) o .words)
-unless true ws r o k = none ws
-unless false ws r o k = k
-
 pub splice-after-few : (ws : List ℕ) (e : Ends) (c : Cursor) (o : Ends) → AtMostFour ws (spliceAfter ws e c o .words)
 unfolding spliceAfter splicedAfter
 splice-after-few ws e c o =
-    unless (isRefused (pairTest ws e c o) || isEmpty o) ws _ _
+    few-unless (isRefused (pairTest ws e c o) || isEmpty o) ws _ _
     (record {
       names = c .current .0 ∷ c .next .0 ∷ o .head .0 ∷ o .tail .0 ∷ [];
       few = lit≤ tt;
@@ -38,7 +30,7 @@ splice-after-few ws e c o =
 pub splice-before-few : (ws : List ℕ) (e : Ends) (c : Cursor) (o : Ends) → AtMostFour ws (spliceBefore ws e c o .words)
 unfolding spliceBefore splicedBefore
 splice-before-few ws e c o =
-    unless (isRefused (pairTest ws e c o) || isEmpty o) ws _ _
+    few-unless (isRefused (pairTest ws e c o) || isEmpty o) ws _ _
     (record {
       names = c .prev .0 ∷ c .current .0 ∷ o .head .0 ∷ o .tail .0 ∷ [];
       few = lit≤ tt;
@@ -48,8 +40,8 @@ splice-before-few ws e c o =
 pub split-after-few : (ws : List ℕ) (e : Ends) (c : Cursor) (o : Ends) → AtMostFour ws (splitAfter ws e c o .words)
 unfolding splitAfter cutAfter
 split-after-few ws e c o =
-    unless (isRefused (splitTest ws e c o)) ws _ _
-    (unless (isNull (c .current)) ws _ _
+    few-unless (isRefused (splitTest ws e c o)) ws _ _
+    (few-unless (isNull (c .current)) ws _ _
     (record {
       names = c .next .0 ∷ c .current .0 ∷ [];
       few = lit≤ tt;
@@ -59,8 +51,8 @@ split-after-few ws e c o =
 pub split-before-few : (ws : List ℕ) (e : Ends) (c : Cursor) (o : Ends) → AtMostFour ws (splitBefore ws e c o .words)
 unfolding splitBefore cutBefore
 split-before-few ws e c o =
-    unless (isRefused (splitTest ws e c o)) ws _ _
-    (unless (isNull (c .current)) ws _ _
+    few-unless (isRefused (splitTest ws e c o)) ws _ _
+    (few-unless (isNull (c .current)) ws _ _
     (record {
       names = c .prev .0 ∷ c .current .0 ∷ [];
       few = lit≤ tt;

@@ -6,13 +6,14 @@ use mathlib.Core.List.{List, [], _∷_, _++_}
 use Prim.Native.Nat.{ℕ, _+_, _*_, _/_, _-_, _<_, _≤_}
 use native.Mathlib.Omega.{arith}
 use lib.Bits.{bitXor}
+use lib.Dec.{lit≤}
 use lib.ListN.{length, getD, set, length-set, List·getD-eq-default}
 use lib.Seq.{getD-set-same, getD-set-other, set-out, set-set, set-comm}
 use Rattle.words.specs.Names.{name, nodeOf, isName}
-use Rattle.words.specs.Pool.{wordAt, putAt}
+use Rattle.words.specs.Pool.{wordAt, putAt, Outcome, outcome}
 use Rattle.words.specs.LinkOps.{replaceNextOrPrev}
 use Rattle.words.specs.Listing.{Off}
-use Rattle.words.specs.Changes.{Changes}
+use Rattle.words.specs.Changes.{Changes, AtMostFour}
 use Rattle.words.proofs.Laws.Cases.{below-or-not, same-or-not, true-or-false}
 use Rattle.words.proofs.Laws.Xor.{xor-swap}
 use Rattle.words.proofs.Laws.Nodes.{all-left, all-right}
@@ -137,3 +138,12 @@ changes-then ns ms a b c h k =
       long = k .long ∙ h .long;
       same = λ i o. k .same i (all-right (λ w. w ≢ name i) ns ms o) ∙ h .same i (all-left (λ w. w ≢ name i) ns ms o);
     }
+
+-- a call that leaves everything, and one that may
+pub few-none : (ws : List ℕ) → AtMostFour ws ws
+few-none ws = record { names = []; few = lit≤ tt; changes = changes-none ws }
+
+pub few-unless : {A : Type 0} (b : Bool) (ws : List ℕ) (r : A) (o : Outcome A) → AtMostFour ws (o .words)
+    → AtMostFour ws (cond b (outcome ws r) o .words)
+few-unless true ws r o k = few-none ws
+few-unless false ws r o k = k
