@@ -1,5 +1,6 @@
 #!/usr/bin/env python3
-"""Checks docs/PROMISES.md: every name that its tables give exists, and every public function stands in one of them.
+"""Checks docs/PROMISES.md: every name that its tables give exists, and every public function and every must-fail edit stands
+in one of them.
 
 A row is: rule | definition | contract | theorem | must-fail edit | run. In its cells
   `words.Names.name`              is a definition of crates/words/specs/Names.antt,
@@ -64,17 +65,22 @@ named = set()
 rows = 0
 for number, line in enumerate((ROOT / "docs" / "PROMISES.md").read_text(encoding="utf-8").splitlines(), 1):
     cells = [c.strip() for c in line.strip().strip("|").split("|")]
-    if not line.startswith("|") or len(cells) != len(COLUMNS) or set(cells[0]) <= set("-: ") or cells[0] == "Rule":
+    if not line.startswith("|") or set(cells[0]) <= set("-: ") or cells[0] == "Rule":
+        continue
+    if len(cells) != len(COLUMNS):
+        wrong.append(f"docs/PROMISES.md:{number}: {len(cells)} cells, and not {len(COLUMNS)}")
         continue
     rows += 1
     for column, cell in list(zip(COLUMNS, cells))[1:]:
         for name in re.findall(r"`([^`]+)`", cell):
-            if column == "contract":
+            if column in ("contract", "edit"):
                 named.add(name)
             if not exists(column, name):
                 wrong.append(f"docs/PROMISES.md:{number}: there is no {column} {name}")
 
+EDITS = {f"{path.parts[-3]}/{path.stem}" for path in CRATES.glob("*/must-fail/*.edit")}
 wrong += [f"docs/PROMISES.md: {name} is public, and no row names its contract" for name in sorted(PUBLIC - named)]
+wrong += [f"docs/PROMISES.md: no row names the edit {name}" for name in sorted(EDITS - named)]
 if rows == 0:
     wrong.append("docs/PROMISES.md: no rows")
 print("\n".join(wrong) if wrong else f"{rows} rows of promises, every name is there")

@@ -9,7 +9,7 @@ use lib.Dec.{ltb, eqb}
 use lib.ListN.{length, getD}
 use Rattle.words.specs.Names.{isLinked}
 use Rattle.words.specs.Pool.{Outcome}
-use Rattle.words.specs.Listing.{Apart, Listing}
+use Rattle.words.specs.Listing.{Off, Apart, Listing}
 use Rattle.standing.specs.declared.answer.Refusal.the-variants.{NoSuchNode, AtNull, AlreadyLinked}
 use Rattle.standing.specs.declared.answer.Answer.{Answer}
 use Rattle.standing.specs.declared.answer.Answer.the-variants.{Done, Handed, Refused}
@@ -72,13 +72,14 @@ plainReplace n linked i (at L x R) =
 plainReplace n linked i (atNull xs) = plain (need (ltb i n) NoSuchNode (Refused AtNull)) (atNull xs) linked
 
 -- What is promised of a call on a sound list, against its plain edit: the same answer, with the node handed out; the words
--- and the ends of the new sequence, with a true cursor at its place; the linked marks; and every listing of another list
--- that shares no node with this one, as it was.
+-- and the ends of the new sequence, with a true cursor at its place; the linked marks; every listing of another list that
+-- shares no node with this one, as it was; and the word of every node that is on neither sequence, as it was.
 pub record Does (ws : List ℕ) (z : Place) (o : Outcome Edited) (d : Plain) : Type 0 where
   pub answer : o .answer .answer ≡ d .answer
   pub sound : Sound (o .words) (o .answer .ends) (o .answer .cursor) (d .place)
   pub marks : (j : ℕ) → isLinked (getD (o .words) j 0) ≡ d .linked j
   pub others : (h t : ℕ) (ys : List ℕ) → Listing bitXor ws h t ys → Apart ys (nodes z) → Listing bitXor (o .words) h t ys
+  pub kept : (j : ℕ) → Off j (nodes z) → Off j (nodes (d .place)) → getD (o .words) j 0 ≡ getD ws j 0
   pub long : length (o .words) ≡ length ws
 
 -- Which nodes are linked, by their words.

@@ -7,7 +7,7 @@ use lib.Bits.{bitXor}
 use lib.ListN.{length, getD}
 use Rattle.words.specs.Names.{isLinked}
 use Rattle.words.specs.Pool.{Outcome}
-use Rattle.words.specs.Listing.{Apart, Listing}
+use Rattle.words.specs.Listing.{Off, Apart, Listing}
 use Rattle.standing.specs.declared.answer.Answer.{Answer}
 use Rattle.cursor.specs.Plain.{atNull, nodes, nextPlace, prevPlace}
 use Rattle.edit.specs.Plain.{Plain, plainInsertAfter, plainInsertBefore, plainRemove}
@@ -43,4 +43,5 @@ pub record DoesList (ws : List ℕ) (xs : List ℕ) (o : Outcome Listed) (d : Pl
   pub listing : Listing bitXor (o .words) (o .answer .ends .head .0) (o .answer .ends .tail .0) (d .nodes)
   pub marks : (j : ℕ) → isLinked (getD (o .words) j 0) ≡ d .linked j
   pub others : (h t : ℕ) (ys : List ℕ) → Listing bitXor ws h t ys → Apart ys xs → Listing bitXor (o .words) h t ys
+  pub kept : (j : ℕ) → Off j xs → Off j (d .nodes) → getD (o .words) j 0 ≡ getD ws j 0
   pub long : length (o .words) ≡ length ws

@@ -6,7 +6,7 @@ use lib.Bits.{bitXor}
 use lib.ListN.{length, getD}
 use Rattle.words.specs.Names.{isLinked}
 use Rattle.words.specs.Pool.{Outcome}
-use Rattle.words.specs.Listing.{Apart, Listing}
+use Rattle.words.specs.Listing.{Off, Apart, Listing}
 use Rattle.standing.specs.declared.answer.Refusal.the-variants.{NotEmpty}
 use Rattle.standing.specs.declared.answer.Answer.{Answer}
 use Rattle.standing.specs.declared.answer.Answer.the-variants.{Done, Refused}
@@ -46,12 +46,13 @@ plainSplitBefore (y ∷ ys) (at L x R) = two (Refused NotEmpty) (at L x R) (y �
 plainSplitBefore (y ∷ ys) (atNull xs) = two (Refused NotEmpty) (atNull xs) (y ∷ ys)
 
 -- What is promised of a call on two sound lists that share no node: the same answer; the words and the ends of both new
--- sequences, with a true cursor at its place; every linked mark as it was; and every listing of a third list that shares
--- no node with them, as it was.
+-- sequences, with a true cursor at its place; every linked mark as it was; every listing of a third list that shares no
+-- node with them, as it was; and the word of every node that is on neither, as it was.
 pub record DoesTwo (ws : List ℕ) (z : Place) (ys : List ℕ) (o : Outcome Parted) (d : PlainTwo) : Type 0 where
   pub answer : o .answer .answer ≡ d .answer
   pub sound : Sound (o .words) (o .answer .ends) (o .answer .cursor) (d .place)
   pub other : Listing bitXor (o .words) (o .answer .other .head .0) (o .answer .other .tail .0) (d .other)
   pub marks : (j : ℕ) → isLinked (getD (o .words) j 0) ≡ isLinked (getD ws j 0)
   pub others : (h t : ℕ) (vs : List ℕ) → Listing bitXor ws h t vs → Apart vs (nodes z) → Apart vs ys → Listing bitXor (o .words) h t vs
+  pub kept : (j : ℕ) → Off j (nodes z) → Off j ys → getD (o .words) j 0 ≡ getD ws j 0
   pub long : length (o .words) ≡ length ws

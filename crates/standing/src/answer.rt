@@ -4,7 +4,7 @@ use words::names::Node;
 ghost use mathlib.Core.Path.{_≡_};
 ghost use Rattle.standing.specs.Answer.{answerNumber, isRefused, handed};
 
-// One case a row of the table, in its order.
+// One case a row of the table, by its number.
 pub enum Refusal {
     Size,
     NoSuchList,

@@ -81,7 +81,7 @@ removed-few ws e c =
 
 pub remove-few : (ws : List ℕ) (e : Ends) (c : Cursor) → AtMostFour ws (remove ws e c .words)
 unfolding remove
-remove-few ws e c = unless (isRefused (someTest (standTest ws e c) c)) ws _ _ (removed-few ws e c)
+remove-few ws e c = few-unless (isRefused (someTest (standTest ws e c) c)) ws _ _ (removed-few ws e c)
 
 pub replace-few : (ws : List ℕ) (e : Ends) (c : Cursor) (i : Node) → AtMostFour ws (replace ws e c i .words)
 unfolding replace replaced exchanged

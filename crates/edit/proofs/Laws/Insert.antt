@@ -126,7 +126,7 @@ all-after P i (atNull xs) h = h
 pub refused-does : (ws : List ℕ) (e : Ends) (c : Cursor) (z : Place) → Sound ws e c z → (o : Outcome Edited) (d : Plain)
     → (a : Rattle.standing.specs.declared.answer.Answer.Answer) → o ≡ outcome ws (edited a e c) → d ≡ plain a z (linkedIn ws) → Does ws z o d
 refused-does ws e c z s o d a p q =
-    rw (p, q) (record { answer = refl; sound = s; marks = λ j. refl; others = λ h t ys l ap'. l; long = refl })
+    rw (p, q) (record { answer = refl; sound = s; marks = λ j. refl; others = λ h t ys l ap'. l; kept = λ j a b. refl; long = refl })
 
 module _ (ws : List ℕ) (e : Ends) (c : Cursor) (z : Place) (i : Node) (f : poolFits (length ws) ≡ true) (s : Sound ws e c z) where
   no-node : ltb (i .0) (length ws) ≡ false → Does ws z (insertAfter ws e c i) (plainInsertAfter (length ws) (linkedIn ws) (i .0) z)
@@ -176,6 +176,7 @@ module _ (ws : List ℕ) (e : Ends) (c : Cursor) (z : Place) (i : Node) (f : poo
             listing-outside bitXor (m ∷ nodes z) ws (insertedAfter ws1 e c (named m) .words) out h' t' ys
             (all-map (λ y. (y ≢ m) × Off y (nodes z)) (λ y. Off y (m ∷ nodes z)) (λ y p. (λ q. p .0 (sym q), p .1)) ys
             (all-both (λ y. y ≢ m) (λ y. Off y (nodes z)) ys (free-off ws h' t' ys m l' l) apart)) l';
+        kept = λ j a b. out .same j (all-after (λ y. y ≢ j) m z b);
         long = out .long;
       })
 

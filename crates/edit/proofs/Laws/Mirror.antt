@@ -99,6 +99,11 @@ module _ (ws : List ℕ) (e : Ends) (c : Cursor) (z : Place) (i : Node) (f : poo
       go true = ap (λ (y : Place). plain (freeTest (length ws) (linkedIn ws) (i .0)) y (linkedIn ws)) (sym (mirror-mirror z))
       go false = ap (λ (y : Place). plain Done y (linking (i .0) (linkedIn ws))) (place-mirror z (i .0))
 
+  -- a node that is off a sequence is off its reverse
+  off-unturned : (y : Place) (j : ℕ) → Off j (nodes (mirror y)) → Off j (nodes y)
+  off-unturned y j o =
+      rw (← (reverse-reverse (nodes y))) (all-reverse (λ x. x ≢ j) (reverse (nodes y)) (rw (mirror-nodes y) at o))
+
   -- a promise kept in the mirror is kept
   does-mirror : (o : Outcome Edited) (d : Plain) → Does ws (mirror z) o d → Does ws z (turnedOutcome o) (turnedPlain d)
   does-mirror o d k =
@@ -108,6 +113,7 @@ module _ (ws : List ℕ) (e : Ends) (c : Cursor) (z : Place) (i : Node) (f : poo
         marks = k .marks;
         others = λ h t ys l apart.
             k .others h t ys l (rw (mirror-nodes z) (all-map (λ y. Off y (nodes z)) (λ y. Off y (reverse (nodes z))) (λ y p. all-reverse (λ x. x ≢ y) (nodes z) p) ys apart));
+        kept = λ j a b. k .kept j (rw (mirror-nodes z) (all-reverse (λ x. x ≢ j) (nodes z) a)) (off-unturned (d .place) j b);
         long = k .long;
       }
 

@@ -136,6 +136,7 @@ removed-does ws e c L x R s =
       others = λ h t ys l apart.
           rw w (listing-outside bitXor (x ∷ (L ++ R)) ws _ o h t ys
           (all-map (λ y. Off y (L ++ x ∷ R)) (λ y. Off y (x ∷ (L ++ R))) (λ y p. all-out (λ v. v ≢ y) L x R p) ys apart) l);
+      kept = λ j a b. rw w (o .same j (all-out (λ y. y ≢ j) L x R a));
       long = rw w (o .long);
     }
 

@@ -159,6 +159,7 @@ module _ (ws : List ℕ) (e : Ends) (c : Cursor) (i : Node) (f : poolFits (lengt
               listing-outside bitXor (m ∷ x ∷ (L ++ R)) ws w' out h' t' ys
               (all-map (λ y. (y ≢ m) × Off y (L ++ x ∷ R)) (λ y. Off y (m ∷ x ∷ (L ++ R))) (λ y p. (λ q. p .0 (sym q), all-out (λ v. v ≢ y) L x R (p .1))) ys
               (all-both (λ y. y ≢ m) (λ y. Off y (L ++ x ∷ R)) ys (free-off ws h' t' ys m l' l) apart)) l';
+          kept = λ j a b. out .same j (all-right (λ y. y ≢ j) L (m ∷ R) b .0, all-out (λ y. y ≢ j) L x R a);
           long = out .long;
         }
 

@@ -57,7 +57,7 @@ module _ (ws : List ℕ) (e : Ends) (f : poolFits (length ws) ≡ true) where
 
   nothing : Listing bitXor ws (e .head .0) (e .tail .0) []
       → DoesList ws [] (outcome ws (listed (Refused AtNull) e)) (asList (plainRemove (linkedIn ws) (atNull [])))
-  nothing l = record { answer = refl; listing = l; marks = λ j. refl; others = λ h t ys k a. k; long = refl }
+  nothing l = record { answer = refl; listing = l; marks = λ j. refl; others = λ h t ys k a. k; kept = λ j a b. refl; long = refl }
 
   pub pop-front-does : (xs : List ℕ) → Listing bitXor ws (e .head .0) (e .tail .0) xs → DoesList ws xs (popFront ws e) (plainPopFront (linkedIn ws) xs)
   pop-front-does [] l = rw (front-none l) (nothing l)

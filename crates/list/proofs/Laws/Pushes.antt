@@ -31,6 +31,7 @@ does-list ws xs z o d e k =
       listing = k .sound .listing;
       marks = k .marks;
       others = λ h t ys l a. k .others h t ys l (rw e a);
+      kept = λ j a b. k .kept j (rw e a) b;
       long = k .long;
     }
 

@@ -7,24 +7,28 @@ use native.Mathlib.Omega.{arith}
 use native.Mathlib.Nat.{mul-le-mul, mul-le-mul-right, suc-mul, mul-comm}
 use lib.Bits.{bitXor}
 use lib.Dec.{ltb, leb, eqb}
-use lib.ListN.{length}
+use lib.ListN.{length, drop, length-drop}
+use lib.Seq.{length-take-le}
 use borrow.Author.Tests.{ltb-true, leb-true, eqb-true, not-true}
 use Rattle.words.specs.declared.names.Node.{Node}
 use Rattle.words.specs.declared.names.Found.the-variants.{At, Nothing}
 use Rattle.words.specs.Names.{name, nodeOf, isName, isNull, poolLimit, poolFits, decoding}
 use Rattle.words.specs.Listing.{Listing}
 use Rattle.words.proofs.Laws.Cases.{both}
-use Rattle.words.proofs.Laws.Names.{decoded, undecoded}
+use Rattle.words.proofs.Laws.Names.{node-name, decoded, undecoded}
 use Rattle.standing.specs.declared.answer.Refusal.the-variants.{Size, CursorDoesNotStand, AtNull}
-use Rattle.standing.specs.declared.answer.Answer.the-variants.{Done}
+use Rattle.standing.specs.declared.answer.Answer.the-variants.{Done, Refused}
 use Rattle.standing.specs.declared.ends.Ends.{Ends}
 use Rattle.standing.specs.Answer.{need, isRefused}
 use Rattle.standing.specs.Tests.{endsTest}
 use Rattle.standing.proofs.Laws.Ladder.{not-both, passed, passed-both}
 use Rattle.standing.proofs.Laws.Stands.{stands-named}
+use Rattle.standing.proofs.Laws.Holds.{name-null}
 use Rattle.cursor.specs.declared.cursor.Cursor.{Cursor}
 use Rattle.cursor.specs.Cursor.{cursorStands, standTest, someTest}
-use Rattle.records.specs.Records.{recordsFit, readTest}
+use Rattle.cursor.specs.Plain.{at, atNull, Sound}
+use Rattle.cursor.proofs.Laws.Sound.{sound-test}
+use Rattle.records.specs.Records.{recordsFit, readTest, recordOf, readAt}
 
 -- sizes that fit
 pub record Fits (n width len : ℕ) : Type 0 where
@@ -108,3 +112,29 @@ pub never-nothing : (ws : List ℕ) (e : Ends) (c : Cursor) (len width : ℕ) �
     → decoding (length ws) (c .current) ≡ Nothing → ⊥
 never-nothing ws e c len width h d =
     not-both (sym (readable ws e c len width h .here) ∙ undecoded (length ws) (c .current) d)
+
+-- ---- on a sound list
+
+module _ (ws : List ℕ) (e : Ends) (c : Cursor) (rs : List ℕ) (width : ℕ) (f : recordsFit (length ws) width (length rs) ≡ true) where
+  pool-fits : poolFits (length ws) ≡ true
+  unfolding recordsFit
+  pool-fits =
+      both (poolFits (length ws)) (leb width 256)
+      (both (poolFits (length ws) && leb width 256) (ltb 0 width && eqb (length rs) (width * length ws)) f .0) .0
+
+  -- at a node the read gives the node's record, which is as long as the width
+  pub read-does : (L : List ℕ) (x : ℕ) (R : List ℕ) → Sound ws e c (at L x R) → readAt ws e c rs width ≡ recordOf rs width x
+  unfolding readAt readTest someTest
+  read-does L x R s =
+      let n : isNull (c .current) ≡ false = rw (s .place .0) (name-null x) in
+      rw (f, sound-test ws e c (at L x R) pool-fits s, n, s .place .0, node-name x)
+
+  pub record-long : (x : ℕ) → x < length ws → length (recordOf rs width x) ≡ width
+  record-long x h =
+      let k = within (length ws) width (length rs) x (fits (length ws) width (length rs) f .long) h in
+      length-take-le width (drop (x * width) rs) (rw (length-drop (x * width) rs) (omega arith))
+
+  -- at null it is refused 8
+  pub read-null : (xs : List ℕ) → Sound ws e c (atNull xs) → readTest ws e c (length rs) width ≡ Refused AtNull
+  unfolding readTest someTest
+  read-null xs s = let n : isNull (c .current) ≡ true = rw (s .place .0) in rw (f, sound-test ws e c (atNull xs) pool-fits s, n)

@@ -26,7 +26,7 @@ pub same-does : (ws : List ℕ) (e : Ends) (c : Cursor) (z : Place) (o : Ends) (
     → Listing bitXor ws (o .head .0) (o .tail .0) ys → (r : Outcome Parted) (d : PlainTwo) (a : Answer)
     → r ≡ outcome ws (parted a e c o) → d ≡ two a z ys → DoesTwo ws z ys r d
 same-does ws e c z o ys s l r d a p q =
-    rw (p, q) (record { answer = refl; sound = s; other = l; marks = λ j. refl; others = λ h t vs k a' b. k; long = refl })
+    rw (p, q) (record { answer = refl; sound = s; other = l; marks = λ j. refl; others = λ h t vs k a' b. k; kept = λ j a' b. refl; long = refl })
 
 -- what shares no node with either of two sequences shares none with both
 pub apart-both : (vs xs ys : List ℕ) → Apart vs xs → Apart vs ys → Apart vs (xs ++ ys)

@@ -78,6 +78,7 @@ does-mirror ws z ys o d k =
       other = xor-listing-reverse (o .words) (o .answer .other .head .0) (o .answer .other .tail .0) (d .other) (k .other);
       marks = k .marks;
       others = λ h t vs l a b. k .others h t vs l (rw (mirror-nodes z) (apart-turned vs (nodes z) a)) (apart-turned vs ys b);
+      kept = λ j a b. k .kept j (rw (mirror-nodes z) (all-reverse (λ x. x ≢ j) (nodes z) a)) (all-reverse (λ x. x ≢ j) ys b);
       long = k .long;
     }
 

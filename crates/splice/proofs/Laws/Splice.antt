@@ -174,5 +174,6 @@ module _ (ws : List ℕ) (e : Ends) (c : Cursor) (o : Ends) (f : poolFits (lengt
         other = rw (d .1, p .1) (record { distinct = tt; ranged = tt; first = refl; last = refl; chain = tt });
         marks = marks-stay ws (splicedAfter ws e c o .words) (nodes z ++ (y ∷ ys)) out old new;
         others = λ h t vs kv a1 a2. listing-outside bitXor (nodes z ++ (y ∷ ys)) ws _ out h t vs (apart-both vs (nodes z) (y ∷ ys) a1 a2) kv;
+        kept = λ j a1 a2. out .same j (all-append (λ x. x ≢ j) (nodes z) (y ∷ ys) a1 a2);
         long = out .long;
       })

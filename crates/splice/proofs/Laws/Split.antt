@@ -115,6 +115,7 @@ module _ (ws : List ℕ) (e : Ends) (c : Cursor) (o : Ends) (f : poolFits (lengt
         marks =
             marks-stay ws (cutAfter ws e c .words) (L ++ x ∷ R) out (listing-linked ws _ _ (L ++ x ∷ R) (s .listing)) (cut-linked ws e c L x R s);
         others = λ h t vs k a b. listing-outside bitXor (L ++ x ∷ R) ws _ out h t vs a k;
+        kept = λ j a b. out .same j a;
         long = out .long;
       })
   split-after-does (atNull xs) [] s l =
@@ -125,5 +126,6 @@ module _ (ws : List ℕ) (e : Ends) (c : Cursor) (o : Ends) (f : poolFits (lengt
         other = s .listing;
         marks = λ j. refl;
         others = λ h t vs k a b. k;
+        kept = λ j a b. refl;
         long = refl;
       })
