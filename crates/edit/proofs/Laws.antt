@@ -5,3 +5,4 @@ pub mod Mirror
 pub mod Remove
 pub mod Replace
 pub mod Few
+pub mod Refused

@@ -4,3 +4,4 @@ pub mod Pops
 pub mod Ends
 pub mod Places
 pub mod Few
+pub mod Refused

@@ -4,3 +4,4 @@ pub mod Splice
 pub mod Split
 pub mod Mirror
 pub mod Few
+pub mod Refused
