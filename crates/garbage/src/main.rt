@@ -4,6 +4,7 @@
 // cursor that it hands back, and the words that it leaves, `same` if none changed. The expected output was worked out from
 // the paper that sets the rules, by a model of its own, and not from a run of this program.
 mod args;
+mod audits;
 mod edits;
 mod iters;
 mod line;
@@ -29,6 +30,7 @@ fn run(l: Line) {
         b'f' => edits::few(a),
         b'l' => lists::every(a),
         b'm' => marks::every(a),
+        b'd' => audits::every(a),
         b'p' => places::beside(a),
         b'a' => places::alone(a),
         b'i' => iters::every(a),
