@@ -1,8 +1,8 @@
 // Every public call, on arguments of any value. Each line of standard input is a case: a word whose first letter says
-// which calls are tried, a label, a colon, and the arguments as decimal numbers with what names them. The line is
-// written again, and under it one line a call: the number that it answers, the node that it hands out, the ends and the
-// cursor that it hands back, and the words that it leaves, `same` if none changed. The expected output was worked out from
-// the paper that sets the rules, by a model of its own, and not from a run of this program.
+// which calls are tried, a label, a colon, and the arguments as decimal numbers with what names them; # starts a line
+// that is no case. The line is written again, and under it one line a call: the number that it answers, the node that it
+// hands out, the ends and the cursor that it hands back, and the words that it leaves, `same` if none changed. The
+// expected output was worked out from the paper that sets the rules, by a model of its own, and not from a run.
 mod args;
 mod audits;
 mod edits;
@@ -35,6 +35,7 @@ fn run(l: Line) {
         b'a' => places::alone(a),
         b'i' => iters::every(a),
         b'r' => reads::every(a),
+        b'#' => show::text(b""),
         _ => show::text(b"  no such case\n"),
     }
 }
