@@ -1,0 +1,4 @@
+-- The laws of lines.
+pub mod Both
+pub mod Lines
+pub mod Answers

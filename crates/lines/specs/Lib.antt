@@ -1,0 +1,3 @@
+-- What must be believed of command lines and answers.
+pub mod Lines
+pub mod Answers
