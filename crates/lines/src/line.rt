@@ -43,7 +43,7 @@ fn uses_node(code: u32) -> bool
 }
 
 // The command uses the other list.
-fn uses_other(code: u32) -> bool
+pub fn uses_other(code: u32) -> bool
     ensures { λ r. ⌜ r ≡ usesOther code ⌝ }
 {
     ((5 <= code) & (code <= 8)) | (code == 12)
