@@ -1,2 +1,4 @@
 -- The proofs of what is promised.
 pub mod Nine
+pub mod Demand2
+pub mod Demand3

@@ -1,0 +1,57 @@
+-- Demand 3 is kept. Assumes nothing.
+use mathlib.Core.Path.{_≡_, refl, sym, ap, _∙_}
+use mathlib.Core.Logic.{⊎-elim}
+use mathlib.Core.Bool.{Bool, true, false}
+use Prim.Native.Nat.{ℕ, _+_, _<_, _≤_}
+use native.Mathlib.Omega.{arith}
+use lib.Dec.{ltb}
+use lib.ListN.{getD}
+use borrow.Author.Tests.{lt-ltb, le-ltb}
+use Rattle.words.specs.Names.{isLinked}
+use Rattle.words.proofs.Laws.Cases.{below-or-not}
+use Rattle.words.proofs.Laws.Listing.{xor-listing-reverse}
+use Rattle.lines.specs.declared.line.Parsed.{Parsed}
+use Rattle.lines.specs.Lines.{lineOf}
+use Rattle.desk.specs.declared.desk.Desk.{Desk}
+use Rattle.history.specs.History.{History, Told, times, onLists, held, isHeld, tell}
+use Rattle.history.specs.Follows.{Agrees, Follows}
+use Rattle.history.specs.Runs.{Given, isForeign}
+use Rattle.history.proofs.Laws.Runs.{each-line}
+use Rattle.history.proofs.Laws.Numbers.{never-foreign}
+use Rattle.promises.specs.Demand3.{Whereabouts, unlinked, listed, stranded, AfterLine, Demand3}
+
+-- a node that is held at most once, and linked if it is held, is at one of three places
+somewhere : (n : ℕ) (d : Desk) (h : History) → Agrees n d h → (x : ℕ) → x < n → Whereabouts (d .words) h x
+unfolding held isHeld
+somewhere n d h g x r =
+    go (onLists x (h .places)) refl (times x (h .stranded)) refl (g .once x) (g .linked x r)
+  where
+    go : (p : ℕ) → onLists x (h .places) ≡ p → (q : ℕ) → times x (h .stranded) ≡ q → onLists x (h .places) + times x (h .stranded) ≤ 1
+        → isLinked (getD (d .words) x 0) ≡ ltb 0 (onLists x (h .places) + times x (h .stranded)) → Whereabouts (d .words) h x
+    go p e q f c k =
+        ⊎-elim
+        (λ a. listed (k ∙ lt-ltb 0 (onLists x (h .places) + times x (h .stranded)) (omega arith)) (omega arith) (omega arith))
+        (λ a. ⊎-elim
+        (λ b. stranded (k ∙ lt-ltb 0 (onLists x (h .places) + times x (h .stranded)) (omega arith)) (omega arith) (omega arith))
+        (λ b. unlinked (k ∙ le-ltb 0 (onLists x (h .places) + times x (h .stranded)) (omega arith)) (omega arith) (omega arith))
+        (below-or-not 0 q))
+        (below-or-not 0 p)
+
+promised : (n : ℕ) (d : Desk) (p : Parsed) (d' : Desk) (t : Told) → isForeign (t .reply .number) ≡ false → Follows n d p d' t → AfterLine n d p d' t
+promised n d p d' t own f =
+    let g = f .agrees in
+    record {
+      lists = g .lists;
+      forward = λ l r. g .sound l r .listing;
+      backward = λ l r. xor-listing-reverse (d' .words) _ _ _ (g .sound l r .listing);
+      cursors = λ l r. g .sound l r .place;
+      whereabouts = somewhere n d' (t .history) g;
+      words = f .afresh;
+      few = f .few;
+      none = f .none;
+      answer = f .reply;
+      table = rw (f .reply) own;
+    }
+
+pub demand-3 : Demand3
+demand-3 n k f few gs m v mv = promised n _ _ _ _ (never-foreign n _ (lineOf (v .line))) (each-line n f k few gs m v mv)
