@@ -1,9 +1,10 @@
 #!/usr/bin/env python3
 """A model of the desk on plain sequences, written from the rules alone: no words, no xor.
 
-Use: model.py [--nodes N] [--lists M] [--runs] < LINES > ANSWERS
-With --runs the input is many runs, each a length of four bytes (high byte first) and that many
-command bytes; each run has a fresh desk, and its answers come back in the same form.
+Use: model.py [--nodes N] [--lists M] [--runs] [--dump] < LINES > ANSWERS
+With --dump each answer is followed by what each list reads forward and backward, and the linked nodes.
+With --runs the input is many runs, each a length of four bytes (high byte first) and that many command
+bytes; each run has a fresh desk, and its answers come back in the same form.
 """
 import argparse
 import sys
@@ -57,6 +58,11 @@ class Desk:
         """All that later answers can depend on, as one value."""
         seqs = tuple(map(tuple, self.seqs))
         return seqs, tuple(self.places), tuple(sorted(self.stranded))
+
+    def dump(self):
+        """Every list forward and backward, and the linked nodes."""
+        read = "".join(f"{at} forward {seq}\n{at} backward {seq[::-1]}\n" for at, seq in enumerate(self.seqs))
+        return f"{read}linked {sorted(self.linked)}\n".encode()
 
     def shown(self, at):
         place = self.places[at]
@@ -213,9 +219,11 @@ EDITS = dict(enumerate((
     Desk.to_null, Desk.push_front, Desk.push_back, Desk.pop_front, Desk.pop_back), 1))
 
 
-def run(data, nodes=1024, lists=8):
+def run(data, nodes=1024, lists=8, dump=False):
     """The answers to a whole input, from a fresh desk."""
     desk = Desk(nodes, lists)
+    if dump:
+        return b"".join(desk.answer(line) + desk.dump() for line in lines_of(data))
     return b"".join(map(desk.answer, lines_of(data)))
 
 
@@ -239,12 +247,13 @@ def main():
     args.add_argument("--nodes", type=int, default=1024)
     args.add_argument("--lists", type=int, default=8)
     args.add_argument("--runs", action="store_true")
+    args.add_argument("--dump", action="store_true")
     got = args.parse_args()
     data = sys.stdin.buffer.read()
     if got.runs:
-        out = join_runs([run(part, got.nodes, got.lists) for part in runs_of(data)])
+        out = join_runs([run(part, got.nodes, got.lists, got.dump) for part in runs_of(data)])
     else:
-        out = run(data, got.nodes, got.lists)
+        out = run(data, got.nodes, got.lists, got.dump)
     sys.stdout.buffer.write(out)
 
 
