@@ -46,3 +46,10 @@ def caller(name="caller", *flags):
     command = ["gcc", "-std=c11", "-O1", "-Wall", "-Wextra", "-Werror", *flags, "-I", ROOT / "include",
                "-o", OUT / name, HOST / "caller.c", LIBRARY]
     return made(OUT / name, sources, command)
+
+
+def oracle():
+    """The crate's own file behind the command lines."""
+    sources = [HOST / "oracle.rs", HOST / "oracle_desk.rs", *CRATE.glob("*.rs")]
+    command = ["rustc", "--edition", "2021", "-O", "-o", OUT / "oracle", sources[0]]
+    return made(OUT / "oracle", sources, command)
