@@ -1,4 +1,4 @@
-"""Builds the programs of host/ into target/host, for the scripts beside it. Builds only what is older than its sources."""
+"""Builds the programs of host/ into target/host, for the scripts beside it, if they are older than their sources."""
 import pathlib
 import shutil
 import subprocess

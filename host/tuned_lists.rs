@@ -130,6 +130,16 @@ impl Desk {
         old - 1
     }
 
+    fn splice(&mut self, command: u32, at: usize, other: usize) {
+        let part = *self.list(other);
+        *self.list(other) = EMPTY;
+        if part.head != 0 && command == 0x05 {
+            self.put_after(at, part.head, part.tail);
+        } else if part.head != 0 {
+            self.put_before(at, part.head, part.tail);
+        }
+    }
+
     fn split_after(&mut self, at: usize, other: usize) {
         let mut list = *self.list(at);
         if list.current == 0 {
@@ -235,15 +245,7 @@ impl Desk {
             }
             0x03 => return self.remove(at),
             0x04 => return self.replace(at, new),
-            0x05 | 0x06 => {
-                let part = *self.list(other);
-                *self.list(other) = EMPTY;
-                if part.head != 0 && command == 0x05 {
-                    self.put_after(at, part.head, part.tail);
-                } else if part.head != 0 {
-                    self.put_before(at, part.head, part.tail);
-                }
-            }
+            0x05 | 0x06 => self.splice(command, at, other),
             0x07 => self.split_after(at, other),
             0x08 => self.split_before(at, other),
             0x09 => self.move_next(at),
