@@ -1,0 +1,55 @@
+"""Builds the programs of host/ into target/host, for the scripts beside it, if they are older than their sources."""
+import pathlib
+import shutil
+import subprocess
+
+HOST = pathlib.Path(__file__).resolve().parent
+ROOT = HOST.parent
+OUT = ROOT / "target" / "host"
+DESK = ROOT / "target" / "bin" / "desk_main"
+LIBRARY = ROOT / "target" / "staticlib" / "librewzhanok.a"
+# The source of the Rust crate that the lists are a port of. It is no part of this project.
+CRATE = ROOT.parent / "shared" / "docs" / "src" / "src"
+
+
+def have(tool):
+    return shutil.which(tool) is not None
+
+
+def made(target, sources, command):
+    """Runs the command if the target is missing or older than a source."""
+    OUT.mkdir(parents=True, exist_ok=True)
+    newest = max(source.stat().st_mtime for source in sources)
+    if not target.exists() or target.stat().st_mtime < newest:
+        subprocess.run([str(part) for part in command], check=True)
+    return target
+
+
+def rust(name, *parts):
+    """A Rust program of host/, with the other files that it is made of."""
+    sources = [HOST / f"{part}.rs" for part in (name, *parts)]
+    command = ["rustc", "--edition", "2021", "-O", "-o", OUT / name, sources[0]]
+    return made(OUT / name, sources, command)
+
+
+def plain():
+    return rust("plain", "plain_lists")
+
+
+def tuned():
+    return rust("tuned", "tuned_lists")
+
+
+def caller(name="caller", *flags):
+    """The C caller, linked with the static library."""
+    sources = [HOST / "caller.c", HOST / "guarded.h", ROOT / "include" / "rewzhanok.h", LIBRARY]
+    command = ["gcc", "-std=c11", "-O1", "-Wall", "-Wextra", "-Werror", *flags, "-I", ROOT / "include",
+               "-o", OUT / name, HOST / "caller.c", LIBRARY]
+    return made(OUT / name, sources, command)
+
+
+def oracle():
+    """The crate's own file behind the command lines."""
+    sources = [HOST / "oracle.rs", HOST / "oracle_desk.rs", *CRATE.glob("*.rs")]
+    command = ["rustc", "--edition", "2021", "-O", "-o", OUT / "oracle", sources[0]]
+    return made(OUT / "oracle", sources, command)
