@@ -128,3 +128,8 @@ fed-next l bs i h = rw (add-one, drop-cons bs i 0)
 pub fed-end : (l : Line) (bs : List ℕ) (i : ℕ) → length bs ≤ i → fedAll l (drop i bs) ≡ l
 unfolding fedAll
 fed-end l bs i h = rw (drop-of-length-le bs h)
+
+-- a line feed is no digit: fed to a line, it spoils the line for good
+pub fed-feed : (l : Line) (bs : List ℕ) → fedAll (fed l 10) bs ≡ line 0 11
+unfolding digitOf
+fed-feed l bs = ap (λ (m : Line). fedAll m bs) (fed-other (l .value) (l .count) 10 (lit≤ tt)) ∙ spoilt bs
