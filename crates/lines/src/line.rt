@@ -1,6 +1,6 @@
 // A command line, read one byte at a time, so that it may come in pieces.
 ghost use mathlib.Core.Path.{_≡_};
-ghost use Rattle.lines.specs.Lines.{digitOf, fresh, fed, usesNode, usesOther, usesList, rightFields, parsed};
+ghost use Rattle.lines.specs.Lines.{digitOf, fresh, fed, fedAll, usesNode, usesOther, usesList, rightFields, lineOf, parsed};
 
 // What a line says: command, list, other list, node.
 pub struct Order {
@@ -92,6 +92,19 @@ impl Line {
         }
     }
 
+    // With these bytes more, of which none is a line feed.
+    pub fn feed_all(self, bytes: &[u8]) -> Line
+        ensures { λ r. ⌜ r ≡ fedAll self (now (bytes .entry)) ⌝ }
+    {
+        let mut line = self;
+        let mut i = 0;
+        while i < bytes.len() {
+            line = line.feed(bytes[i]);
+            i += 1;
+        }
+        line
+    }
+
     // What the line says, once it has ended.
     pub fn parse(self) -> Parsed
         ensures { λ r. ⌜ r ≡ parsed self ⌝ }
@@ -111,4 +124,11 @@ impl Line {
         }
         Parsed::Right(o)
     }
+}
+
+// What a whole line says, from its bytes without the line feed.
+pub fn read(bytes: &[u8]) -> Parsed
+    ensures { λ r. ⌜ r ≡ lineOf (now (bytes .entry)) ⌝ }
+{
+    Line::new().feed_all(bytes).parse()
 }

@@ -1,0 +1,6 @@
+-- The laws of the batch desk.
+pub mod Ends
+pub mod Step
+pub mod Take
+pub mod Place
+pub mod Finish

@@ -1,0 +1,28 @@
+-- The end of a run: nothing is left, or a line that is not ended. Assumes nothing.
+use Prim.Native.Nat.{ℕ}
+use mathlib.Core.Path.{_≡_, refl, sym, ap, _∙_}
+use mathlib.Core.List.{List}
+use borrow.Author.Tests.{eq-eqb, ne-eqb}
+use Rattle.lines.specs.declared.line.Line.{Line}
+use Rattle.lines.specs.declared.line.Parsed.{Parsed}
+use Rattle.lines.specs.Lines.{fresh, parsed}
+use Rattle.desk.specs.declared.desk.Desk.{Desk}
+use Rattle.batch.specs.Step.{stepped}
+use Rattle.batch.specs.Run.{Placing, placing, placedAt, Running, running, ran, ended, finishOf}
+
+-- a line that is run and answered, by the calls that do it
+pub ended-is : (s : Running) (l : Line) (out : List ℕ) (p : Parsed) (d : Desk) (w : ℕ) → p ≡ parsed (s .ran .line) → d ≡ stepped (s .ran .desk) p
+    → placing out w ≡ placedAt (s .out) (s .ran .wrote) (d .reply) → l ≡ fresh → running out (ran d l w) ≡ ended s
+unfolding ended
+ended-is s l out p d w hp hd ho hl =
+    let e : d ≡ stepped (s .ran .desk) (parsed (s .ran .line)) = rw hp at hd in
+    rw (hl, ap (λ (x : Placing). x .out) ho, ap (λ (x : Placing). x .next) ho, e)
+
+pub rests : (d : Desk) (l : Line) (out : List ℕ) (at : ℕ) → l .count ≡ 0 → running out (ran d l at) ≡ finishOf d l out at
+unfolding finishOf
+rests d l out at h = rw (eq-eqb (l .count) 0 h)
+
+pub answers : (d : Desk) (l : Line) (out : List ℕ) (at : ℕ) → (l .count ≡ 0 → ⊥) → (m : Line) (end : List ℕ) (p : Parsed) (e : Desk) (w : ℕ)
+    → p ≡ parsed l → e ≡ stepped d p → placing end w ≡ placedAt out at (e .reply) → m ≡ fresh → running end (ran e m w) ≡ finishOf d l out at
+unfolding finishOf
+answers d l out at h m end p e w hp he ho hm = rw (ne-eqb (l .count) 0 h) (ended-is (running out (ran d l at)) m end p e w hp he ho hm)

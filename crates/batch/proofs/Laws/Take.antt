@@ -1,0 +1,128 @@
+-- The rest of a line, byte by byte and ten digits at once; and a run, line by line. Assumes nothing.
+use Prim.Native.Nat.{ℕ, zero, suc, _+_, _-_, _<_, _≤_}
+use mathlib.Core.Path.{_≡_, refl, sym, ap, _∙_}
+use mathlib.Core.Bool.{Bool, true, false}
+use mathlib.Core.List.{List, [], _∷_, _++_}
+use native.Mathlib.Numerals.{add-one}
+use native.Mathlib.Omega.{arith}
+use lib.Dec.{eqb}
+use lib.ListN.{length, getD, take, drop, take-append-drop, length-drop, drop-of-length-le}
+use lib.Seq.{drop-cons, drop-drop, length-take-le}
+use borrow.Author.Tests.{eq-eqb, ne-eqb, eqb-true, eqb-false}
+use Rattle.lines.specs.declared.line.Line.{Line}
+use Rattle.lines.specs.Lines.{fed, fedAll}
+use Rattle.lines.proofs.Laws.Lines.{fed-feed}
+use Rattle.batch.specs.declared.run.Took.{Took}
+use Rattle.batch.specs.Run.{Running, running, ran, fedTo, ended, runFrom, took, takeFrom}
+
+-- ---- one byte
+
+take-feed : (l : Line) (i b : ℕ) (bs : List ℕ) → eqb b 10 ≡ true → takeFrom l i (b ∷ bs) ≡ took l (i + 1) true
+unfolding takeFrom
+take-feed l i b bs e = rw e
+
+take-other : (l : Line) (i b : ℕ) (bs : List ℕ) → eqb b 10 ≡ false → takeFrom l i (b ∷ bs) ≡ takeFrom (fed l b) (i + 1) bs
+unfolding takeFrom
+take-other l i b bs e = rw e
+
+-- the same at a place of an input
+pub at-end : (l : Line) (xs : List ℕ) (i : ℕ) → length xs ≤ i → takeFrom l i (drop i xs) ≡ took l i false
+unfolding takeFrom
+at-end l xs i h = rw (drop-of-length-le xs h)
+
+pub at-feed : (l : Line) (xs : List ℕ) (i : ℕ) → i < length xs → getD xs i 0 ≡ 10 → takeFrom l i (drop i xs) ≡ took l (i + 1) true
+at-feed l xs i h e = rw (drop-cons xs i 0 h) (take-feed l i (getD xs i 0) (drop (suc i) xs) (eq-eqb (getD xs i 0) 10 e))
+
+pub at-other : (l : Line) (xs : List ℕ) (i : ℕ) → i < length xs → (getD xs i 0 ≡ 10 → ⊥)
+    → takeFrom l i (drop i xs) ≡ takeFrom (fed l (getD xs i 0)) (i + 1) (drop (i + 1) xs)
+at-other l xs i h e =
+    rw (drop-cons xs i 0 h) (take-other l i (getD xs i 0) (drop (suc i) xs) (ne-eqb (getD xs i 0) 10 e) ∙ ap (λ (n : ℕ). takeFrom (fed l (getD xs i 0)) (i + 1) (drop n xs)) (sym (add-one i)))
+
+-- ---- ten digits at once
+
+-- bytes that make ten digits have no line feed among them
+pub whole : (bs : List ℕ) (l : Line) (i : ℕ) (rest : List ℕ) → fedAll l bs .count ≡ 10 → takeFrom l i (bs ++ 10 ∷ rest) ≡ took (fedAll l bs) (i + length bs + 1) true
+unfolding fedAll
+whole [] l i rest h = take-feed l i 10 rest refl ∙ ap (λ (n : ℕ). took l n true) (omega arith)
+whole (b ∷ bs) l i rest h =
+    take-other l i b (bs ++ 10 ∷ rest) (ne-eqb b 10 (λ e. feeds l b bs h e))
+    ∙ whole bs (fed l b) (i + 1) rest h
+    ∙ ap (λ (n : ℕ). took (fedAll (fed l b) bs) n true) (omega arith)
+  where
+    feeds : (l : Line) (b : ℕ) (bs : List ℕ) → fedAll (fed l b) bs .count ≡ 10 → b ≡ 10 → ⊥
+    feeds l b bs h e = let z : fedAll (fed l 10) bs .count ≡ 10 = rw e at h in omega (arith, z, ap (λ (m : Line). m .count) (fed-feed l bs))
+
+pub at-whole : (l : Line) (xs : List ℕ) (i : ℕ) → i + 10 < length xs → getD xs (i + 10) 0 ≡ 10 → (m : Line) → m ≡ fedAll l (take ((i + 10) - i) (drop i xs)) → m .count ≡ 10
+    → took m (i + 10 + 1) true ≡ takeFrom l i (drop i xs)
+at-whole l xs i h e m f k =
+    let n : (i + 10) - i ≡ 10 = omega arith in
+    let g : m ≡ fedAll l (take 10 (drop i xs)) = rw n at f in
+    let p : length (take 10 (drop i xs)) ≡ 10 = length-take-le 10 (drop i xs) (simp length-drop (omega arith)) in
+    let q : drop i xs ≡ take 10 (drop i xs) ++ 10 ∷ drop (suc (i + 10)) xs =
+    sym (take-append-drop 10 (drop i xs))
+    ∙ ap (λ (ys : List ℕ). take 10 (drop i xs) ++ ys)
+    (drop-drop 10 i xs ∙ drop-cons xs (i + 10) 0 h ∙ ap (λ (b : ℕ). b ∷ drop (suc (i + 10)) xs) e) in
+    let r = whole (take 10 (drop i xs)) l i (drop (suc (i + 10)) xs) (ap (λ (x : Line). x .count) (sym g) ∙ k) in
+    sym (ap (takeFrom l i) q ∙ r ∙ ap (λ (n : ℕ). took (fedAll l (take 10 (drop i xs))) (i + n + 1) true) p ∙ ap (λ (x : Line). took x (i + 10 + 1) true) (sym g))
+
+-- ---- a run
+
+run-feed : (s : Running) (b : ℕ) (bs : List ℕ) → eqb b 10 ≡ true → runFrom s (b ∷ bs) ≡ runFrom (ended s) bs
+unfolding runFrom
+run-feed s b bs e = rw e
+
+run-other : (s : Running) (b : ℕ) (bs : List ℕ) → eqb b 10 ≡ false → runFrom s (b ∷ bs) ≡ runFrom (fedTo s b) bs
+unfolding runFrom
+run-other s b bs e = rw e
+
+-- a run that has come so far, with another line
+abbrev pub lined : Running → Line → Running
+lined s l = running (s .out) (ran (s .ran .desk) l (s .ran .wrote))
+
+-- a line that ends: it is run, and what comes after it
+pub record Ended (s : Running) (bs : List ℕ) (i : ℕ) (t : Took) : Type 0 where
+  pub more : i < t .next
+  pub within : t .next ≤ i + length bs
+  pub runs : runFrom s bs ≡ runFrom (ended (lined s (t .line))) (drop (t .next - i) bs)
+
+one-on : (i : ℕ) → (i + 1) - i ≡ suc zero
+one-on i = omega arith
+
+pub ends : (bs : List ℕ) (s : Running) (i : ℕ) (t : Took) → t ≡ takeFrom (s .ran .line) i bs → t .ended ≡ true → Ended s bs i t
+unfolding takeFrom
+ends [] s i t q h = let z : _≡_ {A = Bool} true false = cc in let y : _≡_ {A = ℕ} 0 1 = cc in absurd (omega arith)
+ends (b ∷ bs) s i t q h = go (λ w. ends bs (fedTo s b) (i + 1) t w h) (eqb b 10) refl
+  where
+    go : (t ≡ takeFrom (fed (s .ran .line) b) (i + 1) bs → Ended (fedTo s b) bs (i + 1) t) → (v : Bool) → eqb b 10 ≡ v → Ended s (b ∷ bs) i t
+    go ih true e =
+        let r : t ≡ took (s .ran .line) (i + 1) true = q ∙ take-feed (s .ran .line) i b bs e in
+        rw r (record { more = omega arith; within = omega arith; runs = rw (one-on i) (run-feed s b bs e) })
+    go ih false e =
+        let r = ih (q ∙ take-other (s .ran .line) i b bs e) in
+        let n : t .next - i ≡ suc (t .next - (i + 1)) = omega (arith, r .more) in
+        record { more = omega (arith, r .more); within = omega (arith, r .within); runs = rw n (run-other s b bs e ∙ r .runs) }
+
+-- a line that does not end is all that is left
+pub opens : (bs : List ℕ) (s : Running) (i : ℕ) (t : Took) → t ≡ takeFrom (s .ran .line) i bs → t .ended ≡ false → runFrom s bs ≡ lined s (t .line)
+unfolding takeFrom runFrom
+opens [] s i t q h = rw q
+opens (b ∷ bs) s i t q h = go (λ w. opens bs (fedTo s b) (i + 1) t w h) (eqb b 10) refl
+  where
+    go : (t ≡ takeFrom (fed (s .ran .line) b) (i + 1) bs → runFrom (fedTo s b) bs ≡ lined s (t .line)) → (v : Bool) → eqb b 10 ≡ v → runFrom s (b ∷ bs) ≡ lined s (t .line)
+    go ih true e = let r : t ≡ took (s .ran .line) (i + 1) true = q ∙ take-feed (s .ran .line) i b bs e in let z : _≡_ {A = Bool} true false = cc in cc
+    go ih false e = run-other s b bs e ∙ ih (q ∙ take-other (s .ran .line) i b bs e)
+
+-- at a place of an input
+pub on : (xs : List ℕ) (s : Running) (i : ℕ) (t : Took) → i ≤ length xs → t ≡ takeFrom (s .ran .line) i (drop i xs) → t .ended ≡ true
+    → (i < t .next) × (t .next ≤ length xs) × (runFrom s (drop i xs) ≡ runFrom (ended (lined s (t .line))) (drop (t .next) xs))
+on xs s i t h q e =
+    let r = ends (drop i xs) s i t q e in
+    let n : i + (t .next - i) ≡ t .next = omega (arith, r .more) in (
+      r .more,
+      omega (arith, simp length-drop at (r .within)),
+      r .runs ∙ ap (runFrom (ended (lined s (t .line)))) (drop-drop (t .next - i) i xs ∙ ap (λ (k : ℕ). drop k xs) n),
+    )
+
+pub over : (xs : List ℕ) (s : Running) (i : ℕ) → length xs ≤ i → runFrom s (drop i xs) ≡ s
+unfolding runFrom
+over xs s i h = rw (drop-of-length-le xs h)

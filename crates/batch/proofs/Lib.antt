@@ -1,0 +1,2 @@
+-- What is proved of the batch desk.
+pub mod Laws

@@ -1,0 +1,126 @@
+// One line on the batch desk, which goes in and comes back by value, with the answer in it.
+use audit::audit::audit;
+use cursor::cursor::Cursor;
+use desk::desk::Desk;
+use desk::desk::Reply;
+use desk::desk::Row;
+use desk::desk::Worked;
+use lines::line::Order;
+use lines::line::Parsed;
+use standing::answer::Refusal;
+use standing::ends::Ends;
+ghost use mathlib.Core.Path.{_≡_};
+ghost use Rattle.words.specs.Pool.{outcome};
+ghost use Rattle.audit.specs.Audit.{auditAll};
+ghost use Rattle.desk.specs.Reply.{replyToAudit};
+ghost use Rattle.desk.specs.Work.{clearing};
+ghost use Rattle.desk.specs.Step.{freshDesk, command};
+ghost use Rattle.batch.specs.Step.{unmarking, noMarks, stepped};
+
+// Every node unlinked, every list empty, every cursor null.
+pub fn fresh() -> Desk
+    ensures { λ r. ⌜ r ≡ freshDesk 1024 8 ⌝ }
+{
+    let none = Ends::empty();
+    let cursor = Cursor::null(none);
+    Desk {
+        words: [1u32; 1024],
+        ends: [none; 8],
+        cursors: [cursor; 8],
+        reply: Reply {
+            number: 0,
+            first: 0,
+            second: 0,
+        },
+    }
+}
+
+// Clear, with marks of its own.
+fn clear_in(words: &mut [u32; 1024], named: Row, other: Row) -> Worked
+    ensures { λ w. ⌜ outcome (now (words .exit)) w ≡ unmarking (clearing (now (words .entry)) noMarks named other) ⌝ }
+{
+    let mut marks = [0u8; 1024];
+    desk::work::clear(words, &mut marks, named, other)
+}
+
+// A command on lists.
+fn work_in(words: &mut [u32; 1024], named: Row, other: Row, order: Order) -> Worked
+    ensures { λ w. ⌜ outcome (now (words .exit)) w ≡ unmarking (command (now (words .entry)) noMarks named other order) ⌝ }
+{
+    if order.code == 13 {
+        return clear_in(words, named, other);
+    }
+    desk::work::work(words, named, other, order)
+}
+
+// The audit, with marks of its own, answered.
+fn audit_in(words: &[u32; 1024], ends: [Ends; 8]) -> Reply
+    ensures { λ r. ⌜ r ≡ replyToAudit (auditAll (now (words .entry)) ends noMarks .answer) ⌝ }
+{
+    let heads = [
+        ends[0].head.0,
+        ends[1].head.0,
+        ends[2].head.0,
+        ends[3].head.0,
+        ends[4].head.0,
+        ends[5].head.0,
+        ends[6].head.0,
+        ends[7].head.0,
+    ];
+    let tails = [
+        ends[0].tail.0,
+        ends[1].tail.0,
+        ends[2].tail.0,
+        ends[3].tail.0,
+        ends[4].tail.0,
+        ends[5].tail.0,
+        ends[6].tail.0,
+        ends[7].tail.0,
+    ];
+    let mut marks = [0u8; 1024];
+    let a = audit(words, &heads, &tails, &mut marks);
+    desk::reply::to_audit(a)
+}
+
+// What a line leaves of the desk, with its answer.
+pub fn step(mut desk: Desk, line: Parsed) -> Desk
+    ensures { λ r. ⌜ r ≡ stepped desk line ⌝ }
+{
+    let Parsed::Right(order) = line else {
+        let answer = desk::reply::unread(Refusal::Malformed);
+        desk.reply = answer;
+        return desk;
+    };
+    if order.code == 20 {
+        let ends = desk.ends;
+        let answer = audit_in(&desk.words, ends);
+        desk.reply = answer;
+        return desk;
+    }
+    if (8 <= order.list) | (8 <= order.other) {
+        let answer = desk::reply::unread(Refusal::NoSuchList);
+        desk.reply = answer;
+        return desk;
+    }
+    let l = order.list as usize;
+    let m = order.other as usize;
+    let e = desk.ends[l];
+    let c = desk.cursors[l];
+    let o = desk.ends[m];
+    let k = desk.cursors[m];
+    let named = Row { ends: e, cursor: c };
+    let other = Row { ends: o, cursor: k };
+    let w = work_in(&mut desk.words, named, other, order);
+    // the other list first: where both are one list, the named one stands
+    let f = w.other.ends;
+    let h = w.other.cursor;
+    desk.ends[m] = f;
+    desk.cursors[m] = h;
+    let g = w.named.ends;
+    let j = w.named.cursor;
+    desk.ends[l] = g;
+    desk.cursors[l] = j;
+    let answer = desk::reply::to_work(1024, w);
+    desk.reply = answer;
+    desk
+}
