@@ -1,6 +1,6 @@
 // A command line, read one byte at a time, so that it may come in pieces.
 ghost use mathlib.Core.Path.{_≡_};
-ghost use Rattle.lines.specs.Lines.{digitOf, fresh, fed, usesNode, usesOther, usesList, rightFields, parsed};
+ghost use Rattle.lines.specs.Lines.{digitOf, fresh, fed, usesNode, usesOther, usesList, rightFields, lineOf, parsed};
 
 // What a line says: command, list, other list, node.
 pub struct Order {
@@ -111,4 +111,17 @@ impl Line {
         }
         Parsed::Right(o)
     }
+}
+
+// What a whole line says, from its bytes without the line feed.
+pub fn read(bytes: &[u8]) -> Parsed
+    ensures { λ r. ⌜ r ≡ lineOf (now (bytes .entry)) ⌝ }
+{
+    let mut line = Line::new();
+    let mut i = 0;
+    while i < bytes.len() {
+        line = line.feed(bytes[i]);
+        i += 1;
+    }
+    line.parse()
 }

@@ -8,7 +8,9 @@ use native.Mathlib.Nat.{mod-eq-of-lt, eq-or-lt-of-le, add-zero, zero-add}
 use lib.Pow.{pow-lt, pow-add}
 use native.Mathlib.Omega.{arith}
 use lib.Dec.{ltb, eqb, lit<, lit≤}
-use lib.ListN.{length}
+use lib.ListN.{length, getD, drop, drop-of-length-le}
+use lib.Seq.{drop-cons}
+use native.Mathlib.Numerals.{add-one}
 use borrow.Author.Tests.{lt-ltb, le-ltb, ltb-true, ltb-false, eq-eqb, ne-eqb}
 use Rattle.lines.specs.declared.line.Line.{Line}
 use Rattle.lines.specs.declared.line.Parsed.{Parsed}
@@ -117,3 +119,12 @@ rest (b ∷ bs) v k h r =
 pub fed-says : (bs : List ℕ) → parsed (fedAll fresh bs) ≡ lineOf bs
 unfolding restOf lineOf
 fed-says bs = rest bs 0 0 (lit< tt) (lit≤ tt) ∙ rw (zero-add (length bs))
+
+-- of what is left to read, the next byte is fed first; at the end nothing is left
+pub fed-next : (l : Line) (bs : List ℕ) (i : ℕ) → i < length bs → fedAll l (drop i bs) ≡ fedAll (fed l (getD bs i 0)) (drop (i + 1) bs)
+unfolding fedAll
+fed-next l bs i h = rw (add-one, drop-cons bs i 0)
+
+pub fed-end : (l : Line) (bs : List ℕ) (i : ℕ) → length bs ≤ i → fedAll l (drop i bs) ≡ l
+unfolding fedAll
+fed-end l bs i h = rw (drop-of-length-le bs h)

@@ -1,0 +1,193 @@
+-- One line, on a desk that agrees with its history: the desk follows it. Assumes nothing.
+use mathlib.Core.Path.{_≡_, refl, sym, ap, _∙_}
+use mathlib.Core.Logic.{_≢_}
+use mathlib.Core.Bool.{Bool, true, false, _&&_, _||_, cond}
+use mathlib.Core.List.{List, [], _∷_, _++_}
+use Prim.Native.Nat.{ℕ, _<_, _≤_}
+use native.Mathlib.Omega.{arith}
+use lib.Dec.{eqb, ltb, leb}
+use lib.ListN.{length, getD}
+use borrow.Author.Tests.{ltb-true, eqb-true, eq-eqb}
+use Rattle.words.specs.declared.names.Node.{Node}
+use Rattle.words.specs.Names.{poolFits, decoding}
+use Rattle.words.specs.Pool.{Outcome, outcome}
+use Rattle.words.specs.Changes.{AtMostFour}
+use Rattle.words.proofs.Laws.Cases.{both}
+use Rattle.words.proofs.Laws.Names.{name-is, node-name, null-is-none}
+use Rattle.words.proofs.Laws.Nodes.{all-right}
+use Rattle.words.proofs.Laws.Pool.{few-none}
+use Rattle.standing.specs.declared.answer.Refusal.the-variants.{NoSuchList, SameList, Malformed}
+use Rattle.standing.specs.declared.answer.Answer.the-variants.{Done, Refused}
+use Rattle.standing.specs.Answer.{answerNumber, handed}
+use Rattle.standing.specs.declared.ends.Ends.{Ends}
+use Rattle.standing.specs.Ends.{emptyEnds}
+use Rattle.standing.proofs.Laws.Ladder.{not-both}
+use Rattle.cursor.specs.declared.cursor.Cursor.{Cursor}
+use Rattle.cursor.specs.Cursor.{nullCursor}
+use Rattle.cursor.specs.Plain.{Place, at, atNull, nodes, Sound}
+use Rattle.walk.specs.Marks.{Marking, marking}
+use Rattle.audit.specs.Audit.{directoryLimit, auditFits, auditAll}
+use Rattle.audit.proofs.Laws.Audit.{fit}
+use Rattle.lines.specs.declared.line.Order.{Order}
+use Rattle.lines.specs.declared.line.Parsed.{Parsed}
+use Rattle.lines.specs.declared.line.Parsed.the-variants.{Right, Malformed as Wrong}
+use Rattle.lines.specs.Lines.{usesOther}
+use Rattle.desk.specs.declared.desk.Desk.{Desk}
+use Rattle.desk.specs.declared.desk.Reply.{Reply}
+use Rattle.desk.specs.declared.desk.Row.{Row}
+use Rattle.desk.specs.declared.desk.Worked.{Worked}
+use Rattle.desk.specs.Work.{row, worked, byCode, workOf, clearing}
+use Rattle.desk.specs.Reply.{reply, noNode, shown, replyTo, replyToAudit, replyUnread}
+use Rattle.desk.specs.Step.{rowAt, putRow, putWords, answering, deskFits, listsThere, command, putBack, audited, unread, step}
+use Rattle.history.specs.History.{History, Turn, Told, turn, told, placeAt, times, size, under, replyFor, turnOf, obeyed, after, tell}
+use Rattle.history.specs.Follows.{Agrees, Follows, isClear, isReversal}
+use Rattle.history.proofs.Laws.Agrees.{desk', history'}
+use Rattle.history.proofs.Laws.Comes.{Comes, stays}
+use Rattle.history.proofs.Laws.Commands.{empty-sound}
+use Rattle.history.proofs.Laws.Pairs.{by-code}
+use Rattle.history.proofs.Laws.Clears.{cleared, clear-is, clear-agrees, clear-kept}
+use Rattle.history.proofs.Laws.Audits.{audit-replies, words-afresh}
+
+-- the node of a place is the node under its true cursor
+under-is : (ws : List ℕ) (e : Ends) (c : Cursor) (z : Place) → Sound ws e c z → shown (decoding (length ws) (c .current)) ≡ under z
+unfolding decoding
+under-is ws e c (at L x R) s =
+    let r : x < length ws = all-right (λ y. y < length ws) L (x ∷ R) (s .listing .ranged) .0 in
+    rw (s .place .0, name-is (length ws) x r, node-name x)
+under-is ws e c (atNull xs) s = rw (s .place .0, null-is-none (length ws))
+
+-- an answer is no part of what agrees
+answering-agrees : (n : ℕ) (d : Desk) (r : Reply) (h : History) → Agrees n d h → Agrees n (answering d r) h
+answering-agrees n d r h g =
+    record { long = g .long; lists = g .lists; cursors = g .cursors; sound = g .sound; once = g .once; ranged = g .ranged; linked = g .linked }
+
+module _ (n : ℕ) (d : Desk) (ms : List ℕ) (h : History) (g : Agrees n d h) (f : poolFits n ≡ true) (few : length (h .places) ≤ directoryLimit) (long : length ms ≡ n) where
+  -- a line that changes nothing
+  quiet : (p : Parsed) (r : Reply) → Follows n d p (answering d r) (told h r)
+  quiet p r =
+      record {
+        agrees = answering-agrees n d r h g;
+        reply = refl;
+        afresh = words-afresh n d h g (d .words) (g .long) (λ x s. refl);
+        few = λ e. few-none (d .words);
+        none = λ e. refl;
+      }
+
+  quiet-as : (p : Parsed) (r r' : Reply) → r ≡ r' → Follows n d p (answering d r) (told h r')
+  quiet-as p r r' e = rw e (quiet p r')
+
+  -- ---- a command on lists
+
+  module _ (o : Order) (a : o .list < length (h .places)) (b : o .other < length (h .places)) where
+    -- what a command comes to goes back to the desk
+    back : (w : Outcome Worked) (t : Turn)
+        → w .answer .answer ≡ t .answer
+        → Sound (w .words) (w .answer .named .ends) (w .answer .named .cursor) (t .named)
+        → Agrees n (desk' n d h g (o .list) (o .other) a b (w .words) (w .answer .named) (w .answer .other))
+        (history' n d h g (o .list) (o .other) a b (t .named) (t .other) (t .stranded))
+        → ((x : ℕ) → 0 < times x (t .stranded) → getD (w .words) x 0 ≡ getD (d .words) x 0)
+        → (isClear (Right o) ≡ false → AtMostFour (d .words) (w .words))
+        → (isReversal (Right o) ≡ true → w .words ≡ d .words)
+        → (marks : List ℕ) → Follows n d (Right o) (putBack d o (outcome (w .words) (marking marks (w .answer))) .answer) (after h o t)
+    unfolding putBack after replyTo replyFor
+    back w t ans s k kept fw turned marks =
+        record {
+          agrees = answering-agrees n _ _ _ k;
+          reply = rw ans (ap (λ (v : ℕ). reply (answerNumber (t .answer)) v (shown (handed (t .answer)))) seen);
+          afresh = words-afresh n _ _ k (d .words) (g .long) kept;
+          few = fw;
+          none = turned;
+        }
+      where
+        seen : shown (decoding (length (d .words)) (w .answer .named .cursor .current)) ≡ under (t .named)
+        seen = rw (g .long ∙ sym (k .long)) (under-is (w .words) (w .answer .named .ends) (w .answer .named .cursor) (t .named) s)
+
+    comes : (w : Outcome Worked) (t : Turn) → Comes n d h g (o .list) (o .other) a b w t → (isReversal (Right o) ≡ true → w .words ≡ d .words)
+        → Follows n d (Right o) (putBack d o (outcome (w .words) (marking ms (w .answer))) .answer) (after h o t)
+    comes w t k turned = back w t (k .answer) (k .sound) (k .agrees) (k .kept) (λ e. k .few) turned ms
+
+    -- clear
+    clears : eqb (o .code) 13 ≡ true
+        → Follows n d (Right o) (putBack d o (clearing (d .words) ms (rowAt d (o .list)) (rowAt d (o .other))) .answer)
+        (after h o (turn Done (atNull []) (placeAt h (o .other)) (h .stranded)))
+    clears e =
+        rw (clear-is n d h g f (o .list) (o .other) a b ms long)
+        (back (outcome (cleared n d h g f (o .list) (o .other) a b) (worked Done (row emptyEnds (nullCursor emptyEnds)) (rowAt d (o .other))))
+        (turn Done (atNull []) (placeAt h (o .other)) (h .stranded))
+        refl (empty-sound (cleared n d h g f (o .list) (o .other) a b)) (clear-agrees n d h g f (o .list) (o .other) a b) (clear-kept n d h g f (o .list) (o .other) a b)
+        (λ c. absurd (not-both (sym e ∙ c)))
+        (λ c. absurd (two-codes (eqb-true (o .code) 13 e) (eqb-true (o .code) 11 c)))
+        _)
+      where
+        two-codes : o .code ≡ 13 → o .code ≡ 11 → ⊥
+        two-codes p q = omega arith
+
+    -- the others: a reversal changes no word
+    turned-words : (r q : Row) (i : Node) → eqb (o .code) 11 ≡ true → byCode (o .code) (d .words) r q i .words ≡ d .words
+    unfolding byCode
+    turned-words r q i e = rw (eqb-true (o .code) 11 e)
+
+    works : Follows n d (Right o)
+        (putBack d o (let w = workOf (d .words) (rowAt d (o .list)) (rowAt d (o .other)) o in outcome (w .words) (marking ms (w .answer))) .answer)
+        (after h o (cond (usesOther (o .code) && eqb (o .list) (o .other)) (turn (Refused SameList) (placeAt h (o .list)) (placeAt h (o .other)) (h .stranded))
+        (turnOf (o .code) n h (placeAt h (o .list)) (placeAt h (o .other)) (o .node))))
+    unfolding workOf
+    works = go (usesOther (o .code) && eqb (o .list) (o .other)) refl
+      where
+        i : Node
+        i = record { 0 = o .node }
+
+        go : (v : Bool) → (usesOther (o .code) && eqb (o .list) (o .other)) ≡ v → Follows n d (Right o)
+            (putBack d o (let w = workOf (d .words) (rowAt d (o .list)) (rowAt d (o .other)) o in outcome (w .words) (marking ms (w .answer))) .answer)
+            (after h o (cond (usesOther (o .code) && eqb (o .list) (o .other)) (turn (Refused SameList) (placeAt h (o .list)) (placeAt h (o .other)) (h .stranded))
+            (turnOf (o .code) n h (placeAt h (o .list)) (placeAt h (o .other)) (o .node))))
+        go true e =
+            rw e
+            (comes (outcome (d .words) (worked (Refused SameList) (rowAt d (o .list)) (rowAt d (o .other)))) _ (stays n d h g (o .list) (o .other) a b (Refused SameList)) (λ c. refl))
+        go false e =
+            rw e
+            (comes (byCode (o .code) (d .words) (rowAt d (o .list)) (rowAt d (o .other)) i) _
+            (by-code n d h g f (o .list) (o .other) a b (o .code) i
+            (λ u q. not-both (sym (rw (u, eq-eqb (o .list) (o .other) q)) ∙ e)))
+            (turned-words (rowAt d (o .list)) (rowAt d (o .other)) i))
+
+    commands : Follows n d (Right o) (putBack d o (command (d .words) ms (rowAt d (o .list)) (rowAt d (o .other)) o) .answer)
+        (after h o (obeyed n h o (placeAt h (o .list)) (placeAt h (o .other))))
+    unfolding command obeyed
+    commands = go (eqb (o .code) 13) refl
+      where
+        go : (v : Bool) → eqb (o .code) 13 ≡ v
+            → Follows n d (Right o) (putBack d o (command (d .words) ms (rowAt d (o .list)) (rowAt d (o .other)) o) .answer)
+            (after h o (obeyed n h o (placeAt h (o .list)) (placeAt h (o .other))))
+        go true e = rw e (clears e)
+        go false e = rw e works
+
+  -- ---- the line
+
+  fits : deskFits d ms ≡ true
+  unfolding deskFits auditFits
+  fits = fit (d .words) (d .ends) ms (record { pool = rw (g .long) f; long = long ∙ sym (g .long); few = rw (g .lists) few })
+
+  audits : (p : Parsed) → Follows n d p (audited d ms .answer) (told h (reply 0 (size (h .places)) (length (h .stranded))))
+  unfolding audited
+  audits p = quiet-as p _ _ (audit-replies n d h g ms f few long)
+
+  there : (o : Order) → listsThere d o ≡ (ltb (o .list) (length (h .places)) && ltb (o .other) (length (h .places)))
+  unfolding listsThere
+  there o = rw (g .lists)
+
+  pick : (p : Parsed) (c : Bool) (x x' : Marking Desk) (t t' : Told) → (c ≡ true → Follows n d p (x .answer) t) → (c ≡ false → Follows n d p (x' .answer) t')
+      → Follows n d p (cond c x x' .answer) (cond c t t')
+  pick p true x x' t t' u v = u refl
+  pick p false x x' t t' u v = v refl
+
+  pub step-follows : (p : Parsed) → Follows n d p (step d ms p .answer) (tell n h p)
+  unfolding unread
+  step-follows Wrong = quiet Wrong (replyUnread Malformed)
+  step-follows (Right o) =
+      rw (fits, there o)
+      (pick (Right o) (eqb (o .code) 20) _ _ _ _ (λ e. audits (Right o))
+      (λ e1. pick (Right o) (ltb (o .list) (length (h .places)) && ltb (o .other) (length (h .places))) _ _ _ _
+      (λ e. let k = both (ltb (o .list) (length (h .places))) (ltb (o .other) (length (h .places))) e in
+      commands o (ltb-true (o .list) (length (h .places)) (k .0)) (ltb-true (o .other) (length (h .places)) (k .1)))
+      (λ e. quiet (Right o) (replyUnread NoSuchList))))
