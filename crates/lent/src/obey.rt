@@ -21,6 +21,7 @@ ghost use Rattle.words.specs.Pool.{outcome};
 ghost use Rattle.walk.specs.Marks.{marking};
 ghost use Rattle.audit.specs.Audit.{directoryLimit, zipEnds};
 ghost use Rattle.lines.specs.declared.line.Parsed.the-variants.{Right};
+ghost use Rattle.lines.specs.Lines.{lineOf};
 ghost use Rattle.desk.specs.Step.{command};
 ghost use Rattle.lent.specs.Lent.{lists, lent, left, listCount, lentStep};
 ghost use Rattle.lent.specs.Steps.{rowIn, putIn, auditReply, commandStep};
@@ -197,4 +198,21 @@ pub fn obey(
         return unread(Refusal::Malformed);
     };
     obey_order(words, heads, tails, currents, prevs, nexts, marks, order)
+}
+
+// One line, from its bytes without the line feed.
+pub fn obey_line(
+    words: &mut [u32],
+    heads: &mut [u32],
+    tails: &mut [u32],
+    currents: &mut [u32],
+    prevs: &mut [u32],
+    nexts: &mut [u32],
+    marks: &mut [u8],
+    line: &[u8],
+) -> Reply
+    ensures { λ r. ⌜ left (lent (now (words .exit)) (lists (now (heads .exit)) (now (tails .exit)) (now (currents .exit)) (now (prevs .exit)) (now (nexts .exit))) (now (marks .exit))) r ≡ lentStep (lent (now (words .entry)) (lists (now (heads .entry)) (now (tails .entry)) (now (currents .entry)) (now (prevs .entry)) (now (nexts .entry))) (now (marks .entry))) (lineOf (now (line .entry))) ⌝ }
+{
+    let said = lines::line::read(line);
+    obey(words, heads, tails, currents, prevs, nexts, marks, said)
 }
