@@ -2,3 +2,4 @@
 pub mod Slices
 pub mod Desk
 pub mod Steps
+pub mod Unique

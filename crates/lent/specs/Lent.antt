@@ -73,12 +73,13 @@ deskOf s =
 unfoldable pub over : {A : Type 0} → (A → ℕ) → List A → List ℕ → List ℕ
 over part xs ys = map part xs ++ drop (length xs) ys
 
--- The slices as a desk leaves them.
+-- The slices with a desk's lists in them.
 unfoldable pub listsAfter : Lists → List Ends → List Cursor → Lists
 listsAfter ls es cs =
     lists (over (λ e. e .head .0) es (ls .heads)) (over (λ e. e .tail .0) es (ls .tails))
     (over (λ c. c .current .0) cs (ls .currents)) (over (λ c. c .prev .0) cs (ls .prevs)) (over (λ c. c .next .0) cs (ls .nexts))
 
+-- What a step of the desk leaves of all that is lent, and its answer.
 unfoldable pub leftBy : Lent → Marking Desk → Left
 leftBy s m =
     let d = m .answer in

@@ -1,18 +1,18 @@
 -- The desk that is lent, list by list: how its lists are read from the slices, and how they go back. Assumes nothing.
-use mathlib.Core.Path.{_≡_, refl, sym, ap, _∙_}
+use mathlib.Core.Path.{_≡_, sym, ap, _∙_}
 use mathlib.Core.List.{List}
-use Prim.Native.Nat.{ℕ, _<_, _≤_, min}
+use Prim.Native.Nat.{ℕ, _<_, _≤_}
 use native.Mathlib.Omega.{arith}
 use lib.ListN.{length, getD, set, take, length-set}
 use lib.Seq.{length-take-le, getD-take}
 use Rattle.standing.specs.declared.ends.Ends.{Ends}
-use Rattle.standing.specs.Ends.{endsOf, emptyEnds}
+use Rattle.standing.specs.Ends.{emptyEnds}
 use Rattle.cursor.specs.declared.cursor.Cursor.{Cursor}
-use Rattle.cursor.specs.Cursor.{cursorOf, nullCursor}
+use Rattle.cursor.specs.Cursor.{nullCursor}
 use Rattle.audit.proofs.Laws.Steps.{zip-at}
 use Rattle.desk.specs.declared.desk.Row.{Row}
 use Rattle.desk.specs.Work.{row}
-use Rattle.lent.specs.Lent.{Lists, lists, listCount, endsIn, cursorsIn, over, listsAfter}
+use Rattle.lent.specs.Lent.{Lists, listCount, endsIn, cursorsIn, listsAfter}
 use Rattle.lent.specs.Steps.{rowIn, putIn}
 use Rattle.lent.proofs.Laws.Slices.{over-set, over-own, ends-length, heads-of, tails-of, cursors-length, currents-of, prevs-of, nexts-of, cursor-at}
 

@@ -1,12 +1,12 @@
 -- The steps of the code come to the lent desk. Assumes nothing.
-use mathlib.Core.Path.{_≡_, refl, sym, ap, _∙_}
-use mathlib.Core.Bool.{Bool, true, false, _&&_, not, cond}
+use mathlib.Core.Path.{_≡_, sym, ap, _∙_}
+use mathlib.Core.Bool.{Bool, true, false, _&&_, not}
 use mathlib.Core.List.{List}
 use Prim.Native.Nat.{ℕ, _<_, _-_, min}
 use native.Mathlib.Omega.{arith}
 use native.Mathlib.Nat.{sub-zero}
 use lib.Dec.{ltb, leb, eqb}
-use lib.ListN.{length, take, drop}
+use lib.ListN.{length, take}
 use borrow.Author.Tests.{not-true, not-false, ltb-true, eq-eqb, ne-eqb}
 use Rattle.words.specs.Names.{poolFits}
 use Rattle.words.specs.Pool.{outcome}
@@ -22,7 +22,7 @@ use Rattle.desk.specs.declared.desk.Row.{Row}
 use Rattle.desk.specs.declared.desk.Worked.{Worked}
 use Rattle.desk.specs.Reply.{replyTo, replyToAudit, replyUnread}
 use Rattle.desk.specs.Step.{rowAt, answering, deskFits, listsThere, command, putBack, audited, unread}
-use Rattle.lent.specs.Lent.{Lists, Lent, lent, left, listCount, endsIn, cursorsIn, deskOf, leftBy, lentStep}
+use Rattle.lent.specs.Lent.{Lists, Lent, lent, left, listCount, endsIn, deskOf, leftBy, lentStep}
 use Rattle.lent.specs.Steps.{rowIn, putIn, auditReply, commandStep}
 use Rattle.lent.proofs.Laws.Slices.{take-least}
 use Rattle.lent.proofs.Laws.Desk.{count-within, count-ends, row-there, lists-kept, lists-put}
