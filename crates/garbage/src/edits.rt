@@ -50,31 +50,31 @@ fn moves(words: &[u32], a: Args) {
 }
 
 fn insert_after(before: &[u32], after: &mut [u32], a: Args) {
-    let r = edit::insert::insert_after(a.cursor, after, a.ends, a.node);
+    let r = insert::insert_after(a.cursor, after, a.ends, a.node);
     show::edited(b"  insert_after", r);
     show_pool::left(before, after);
 }
 
 fn insert_before(before: &[u32], after: &mut [u32], a: Args) {
-    let r = edit::insert::insert_before(a.cursor, after, a.ends, a.node);
+    let r = insert::insert_before(a.cursor, after, a.ends, a.node);
     show::edited(b"  insert_before", r);
     show_pool::left(before, after);
 }
 
 fn unlink(before: &[u32], after: &mut [u32], a: Args) {
-    let r = edit::remove::unlink(after, a.ends, a.cursor);
+    let r = remove::unlink(after, a.ends, a.cursor);
     show::edited(b"  unlink", r);
     show_pool::left(before, after);
 }
 
 fn remove(before: &[u32], after: &mut [u32], a: Args) {
-    let r = edit::remove::remove(a.cursor, after, a.ends);
+    let r = remove::remove(a.cursor, after, a.ends);
     show::edited(b"  remove", r);
     show_pool::left(before, after);
 }
 
 fn replace(before: &[u32], after: &mut [u32], a: Args) {
-    let r = edit::remove::replace(a.cursor, after, a.ends, a.node);
+    let r = remove::replace(a.cursor, after, a.ends, a.node);
     show::edited(b"  replace", r);
     show_pool::left(before, after);
 }
