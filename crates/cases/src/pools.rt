@@ -81,8 +81,8 @@ fn more_edits(words: &mut [u32], ends: Ends) -> Edited {
 
 // What is beyond the cursor is moved out, and put before it. Accepted, all nodes are in the order of their numbers again.
 fn parts(words: &mut [u32], ends: Ends, cursor: Cursor) -> Ends {
-    let split = splice::split::split_after(cursor, words, ends, Ends::empty());
-    let joined = splice::splice::splice_before(split.cursor, words, split.ends, split.other);
+    let split = split::split_after(cursor, words, ends, Ends::empty());
+    let joined = splice::splice_before(split.cursor, words, split.ends, split.other);
     show::parted(b"split_after", split);
     show::parted(b"splice_before", joined);
     joined.ends

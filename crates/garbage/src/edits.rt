@@ -80,25 +80,25 @@ fn replace(before: &[u32], after: &mut [u32], a: Args) {
 }
 
 fn splice_after(before: &[u32], after: &mut [u32], a: Args) {
-    let r = splice::splice::splice_after(a.cursor, after, a.ends, a.other);
+    let r = splice::splice_after(a.cursor, after, a.ends, a.other);
     show::parted(b"  splice_after", r);
     show_pool::left(before, after);
 }
 
 fn splice_before(before: &[u32], after: &mut [u32], a: Args) {
-    let r = splice::splice::splice_before(a.cursor, after, a.ends, a.other);
+    let r = splice::splice_before(a.cursor, after, a.ends, a.other);
     show::parted(b"  splice_before", r);
     show_pool::left(before, after);
 }
 
 fn split_after(before: &[u32], after: &mut [u32], a: Args) {
-    let r = splice::split::split_after(a.cursor, after, a.ends, a.other);
+    let r = split::split_after(a.cursor, after, a.ends, a.other);
     show::parted(b"  split_after", r);
     show_pool::left(before, after);
 }
 
 fn split_before(before: &[u32], after: &mut [u32], a: Args) {
-    let r = splice::split::split_before(a.cursor, after, a.ends, a.other);
+    let r = split::split_before(a.cursor, after, a.ends, a.other);
     show::parted(b"  split_before", r);
     show_pool::left(before, after);
 }

@@ -13,7 +13,8 @@ use Rattle.cursor.specs.Plain.{Place, at, atNull, nodes, nextPlace, prevPlace}
 use Rattle.edit.specs.Plain.{Plain}
 use Rattle.insert.specs.Plain.{plainInsertAfter, plainInsertBefore}
 use Rattle.remove.specs.Plain.{plainRemove, plainReplace}
-use Rattle.splice.specs.Plain.{PlainTwo, plainSpliceAfter, plainSpliceBefore, plainSplitAfter, plainSplitBefore}
+use Rattle.splice.specs.Plain.{PlainTwo, plainSpliceAfter, plainSpliceBefore}
+use Rattle.split.specs.Plain.{plainSplitAfter, plainSplitBefore}
 use Rattle.list.specs.Plain.{PlainList, plainPushFront, plainPushBack, plainPopFront, plainPopBack}
 use Rattle.audit.specs.Audit.{bit}
 use Rattle.lines.specs.declared.line.Order.{Order}
