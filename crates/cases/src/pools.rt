@@ -61,7 +61,7 @@ fn walk_it(words: &[u32], marks: &mut [u8], ends: Ends) {
 fn edits(words: &mut [u32], ends: Ends) -> Ends {
     let first = Cursor::new(Name(2), Name(0), Name(4));
     let popped = list::list::pop_back(words, ends);
-    let replaced = edit::remove::replace(first, words, popped.ends, Node(4095));
+    let replaced = remove::replace(first, words, popped.ends, Node(4095));
     let pushed = list::list::push_front(words, replaced.ends, Node(0));
     show::listed(b"pop_back", popped);
     show::edited(b"replace by 4095", replaced);
@@ -72,8 +72,8 @@ fn edits(words: &mut [u32], ends: Ends) -> Ends {
 // The first node is taken off and put back.
 fn more_edits(words: &mut [u32], ends: Ends) -> Edited {
     let first = Cursor::new(Name(2), Name(0), Name(8192));
-    let removed = edit::remove::remove(first, words, ends);
-    let inserted = edit::insert::insert_before(removed.cursor, words, removed.ends, Node(0));
+    let removed = remove::remove(first, words, ends);
+    let inserted = insert::insert_before(removed.cursor, words, removed.ends, Node(0));
     show::edited(b"remove", removed);
     show::edited(b"insert_before of 0", inserted);
     inserted
@@ -81,8 +81,8 @@ fn more_edits(words: &mut [u32], ends: Ends) -> Edited {
 
 // What is beyond the cursor is moved out, and put before it. Accepted, all nodes are in the order of their numbers again.
 fn parts(words: &mut [u32], ends: Ends, cursor: Cursor) -> Ends {
-    let split = splice::split::split_after(cursor, words, ends, Ends::empty());
-    let joined = splice::splice::splice_before(split.cursor, words, split.ends, split.other);
+    let split = split::split_after(cursor, words, ends, Ends::empty());
+    let joined = splice::splice_before(split.cursor, words, split.ends, split.other);
     show::parted(b"split_after", split);
     show::parted(b"splice_before", joined);
     joined.ends

@@ -17,8 +17,10 @@ use Rattle.cursor.specs.declared.cursor.Edited.{Edited}
 use Rattle.cursor.specs.declared.cursor.Parted.{Parted}
 use Rattle.cursor.specs.Cursor.{nullCursor}
 use Rattle.cursor.specs.Moves.{moveNext, movePrev}
-use Rattle.edit.specs.Edits.{insertAfter, insertBefore, remove, replace}
-use Rattle.splice.specs.Splices.{spliceAfter, spliceBefore, splitAfter, splitBefore}
+use Rattle.insert.specs.Inserts.{insertAfter, insertBefore}
+use Rattle.remove.specs.Removes.{remove, replace}
+use Rattle.splice.specs.Splices.{spliceAfter, spliceBefore}
+use Rattle.split.specs.Splits.{splitAfter, splitBefore}
 use Rattle.list.specs.declared.list.Listed.{Listed}
 use Rattle.list.specs.Lists.{pushFront, pushBack, popFront, popBack, take, fastClear, reversed}
 use Rattle.walk.specs.Marks.{Marking, marking}

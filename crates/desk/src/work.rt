@@ -108,14 +108,14 @@ fn by_code(words: &mut [u32], named: Row, other: Row, code: u32, node: Node) -> 
     let c = named.cursor;
     let o = other.ends;
     match code {
-        1 => at_cursor(edit::insert::insert_after(c, words, e, node), other),
-        2 => at_cursor(edit::insert::insert_before(c, words, e, node), other),
-        3 => at_cursor(edit::remove::remove(c, words, e), other),
-        4 => at_cursor(edit::remove::replace(c, words, e, node), other),
-        5 => on_both(splice::splice::splice_after(c, words, e, o), other),
-        6 => on_both(splice::splice::splice_before(c, words, e, o), other),
-        7 => on_both(splice::split::split_after(c, words, e, o), other),
-        8 => on_both(splice::split::split_before(c, words, e, o), other),
+        1 => at_cursor(insert::insert_after(c, words, e, node), other),
+        2 => at_cursor(insert::insert_before(c, words, e, node), other),
+        3 => at_cursor(remove::remove(c, words, e), other),
+        4 => at_cursor(remove::replace(c, words, e, node), other),
+        5 => on_both(splice::splice_after(c, words, e, o), other),
+        6 => on_both(splice::splice_before(c, words, e, o), other),
+        7 => on_both(split::split_after(c, words, e, o), other),
+        8 => on_both(split::split_before(c, words, e, o), other),
         9 => at_cursor(c.move_next(words, e), other),
         10 => at_cursor(c.move_prev(words, e), other),
         11 => on_list(list::list::reverse(words, e), named, other),

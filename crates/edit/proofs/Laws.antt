@@ -1,8 +1,4 @@
--- The laws of inserts, remove and replace: on a sound list each does its plain edit, and none changes more than four words.
+-- The laws that edits of one list share.
 pub mod Common
-pub mod Insert
-pub mod Mirror
-pub mod Remove
-pub mod Replace
 pub mod Few
 pub mod Refused

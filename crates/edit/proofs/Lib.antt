@@ -1,2 +1,2 @@
--- What is proved of inserts, remove and replace, beside the proof of each function.
+-- What is proved of every edit of one list at a cursor.
 pub mod Laws

@@ -1,4 +1,2 @@
-// Edits of one list at a cursor: inserts, remove, replace. Each consumes the cursor and hands it back with the ends and the
-// answer. A refused call changes nothing.
-pub mod insert;
-pub mod remove;
+// No code: what edits of one list at a cursor have in common, for the crates `insert` and `remove`. Each edit consumes the cursor
+// and hands it back with the ends and the answer. A refused call changes nothing.

@@ -50,55 +50,55 @@ fn moves(words: &[u32], a: Args) {
 }
 
 fn insert_after(before: &[u32], after: &mut [u32], a: Args) {
-    let r = edit::insert::insert_after(a.cursor, after, a.ends, a.node);
+    let r = insert::insert_after(a.cursor, after, a.ends, a.node);
     show::edited(b"  insert_after", r);
     show_pool::left(before, after);
 }
 
 fn insert_before(before: &[u32], after: &mut [u32], a: Args) {
-    let r = edit::insert::insert_before(a.cursor, after, a.ends, a.node);
+    let r = insert::insert_before(a.cursor, after, a.ends, a.node);
     show::edited(b"  insert_before", r);
     show_pool::left(before, after);
 }
 
 fn unlink(before: &[u32], after: &mut [u32], a: Args) {
-    let r = edit::remove::unlink(after, a.ends, a.cursor);
+    let r = remove::unlink(after, a.ends, a.cursor);
     show::edited(b"  unlink", r);
     show_pool::left(before, after);
 }
 
 fn remove(before: &[u32], after: &mut [u32], a: Args) {
-    let r = edit::remove::remove(a.cursor, after, a.ends);
+    let r = remove::remove(a.cursor, after, a.ends);
     show::edited(b"  remove", r);
     show_pool::left(before, after);
 }
 
 fn replace(before: &[u32], after: &mut [u32], a: Args) {
-    let r = edit::remove::replace(a.cursor, after, a.ends, a.node);
+    let r = remove::replace(a.cursor, after, a.ends, a.node);
     show::edited(b"  replace", r);
     show_pool::left(before, after);
 }
 
 fn splice_after(before: &[u32], after: &mut [u32], a: Args) {
-    let r = splice::splice::splice_after(a.cursor, after, a.ends, a.other);
+    let r = splice::splice_after(a.cursor, after, a.ends, a.other);
     show::parted(b"  splice_after", r);
     show_pool::left(before, after);
 }
 
 fn splice_before(before: &[u32], after: &mut [u32], a: Args) {
-    let r = splice::splice::splice_before(a.cursor, after, a.ends, a.other);
+    let r = splice::splice_before(a.cursor, after, a.ends, a.other);
     show::parted(b"  splice_before", r);
     show_pool::left(before, after);
 }
 
 fn split_after(before: &[u32], after: &mut [u32], a: Args) {
-    let r = splice::split::split_after(a.cursor, after, a.ends, a.other);
+    let r = split::split_after(a.cursor, after, a.ends, a.other);
     show::parted(b"  split_after", r);
     show_pool::left(before, after);
 }
 
 fn split_before(before: &[u32], after: &mut [u32], a: Args) {
-    let r = splice::split::split_before(a.cursor, after, a.ends, a.other);
+    let r = split::split_before(a.cursor, after, a.ends, a.other);
     show::parted(b"  split_before", r);
     show_pool::left(before, after);
 }

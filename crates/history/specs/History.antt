@@ -10,8 +10,11 @@ use Rattle.standing.specs.declared.answer.Answer.{Answer}
 use Rattle.standing.specs.declared.answer.Answer.the-variants.{Done, Refused}
 use Rattle.standing.specs.Answer.{answerNumber, handed, isRefused}
 use Rattle.cursor.specs.Plain.{Place, at, atNull, nodes, nextPlace, prevPlace}
-use Rattle.edit.specs.Plain.{Plain, plainInsertAfter, plainInsertBefore, plainRemove, plainReplace}
-use Rattle.splice.specs.Plain.{PlainTwo, plainSpliceAfter, plainSpliceBefore, plainSplitAfter, plainSplitBefore}
+use Rattle.edit.specs.Plain.{Plain}
+use Rattle.insert.specs.Plain.{plainInsertAfter, plainInsertBefore}
+use Rattle.remove.specs.Plain.{plainRemove, plainReplace}
+use Rattle.splice.specs.Plain.{PlainTwo, plainSpliceAfter, plainSpliceBefore}
+use Rattle.split.specs.Plain.{plainSplitAfter, plainSplitBefore}
 use Rattle.list.specs.Plain.{PlainList, plainPushFront, plainPushBack, plainPopFront, plainPopBack}
 use Rattle.audit.specs.Audit.{bit}
 use Rattle.lines.specs.declared.line.Order.{Order}

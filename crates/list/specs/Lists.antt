@@ -14,7 +14,8 @@ use Rattle.standing.specs.Tests.{endsHold, endsTest}
 use Rattle.cursor.specs.declared.cursor.Edited.{Edited}
 use Rattle.cursor.specs.Cursor.{nullCursor, edited}
 use Rattle.cursor.specs.Moves.{movedNext, movedPrev}
-use Rattle.edit.specs.Edits.{insertAfter, insertBefore, removed}
+use Rattle.insert.specs.Inserts.{insertAfter, insertBefore}
+use Rattle.remove.specs.Removes.{removed}
 use Rattle.list.specs.declared.list.Listed.{Listed}
 use Rattle.list.specs.declared.list.Taken.{Taken}
 

@@ -10,7 +10,9 @@ use Rattle.words.specs.Pool.{Outcome}
 use Rattle.words.specs.Listing.{Off, Apart, Listing}
 use Rattle.standing.specs.declared.answer.Answer.{Answer}
 use Rattle.cursor.specs.Plain.{atNull, nodes, nextPlace, prevPlace}
-use Rattle.edit.specs.Plain.{Plain, plainInsertAfter, plainInsertBefore, plainRemove}
+use Rattle.edit.specs.Plain.{Plain}
+use Rattle.insert.specs.Plain.{plainInsertAfter, plainInsertBefore}
+use Rattle.remove.specs.Plain.{plainRemove}
 use Rattle.list.specs.declared.list.Listed.{Listed}
 
 -- What a plain edit of a list gives: the answer, the sequence, and which nodes are linked.

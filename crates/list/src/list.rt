@@ -67,7 +67,7 @@ pub fn back(words: &[u32], ends: Ends) -> Edited
 pub fn push_front(words: &mut [u32], ends: Ends, node: Node) -> Listed
     ensures { λ r. ⌜ outcome (now (words .exit)) r ≡ pushFront (now (words .entry)) ends node ⌝ }
 {
-    let r = edit::insert::insert_after(Cursor::null(ends), words, ends, node);
+    let r = insert::insert_after(Cursor::null(ends), words, ends, node);
     let answer = r.answer;
     let e = r.ends;
     Listed { answer, ends: e }
@@ -76,7 +76,7 @@ pub fn push_front(words: &mut [u32], ends: Ends, node: Node) -> Listed
 pub fn push_back(words: &mut [u32], ends: Ends, node: Node) -> Listed
     ensures { λ r. ⌜ outcome (now (words .exit)) r ≡ pushBack (now (words .entry)) ends node ⌝ }
 {
-    let r = edit::insert::insert_before(Cursor::null(ends), words, ends, node);
+    let r = insert::insert_before(Cursor::null(ends), words, ends, node);
     let answer = r.answer;
     let e = r.ends;
     Listed { answer, ends: e }
@@ -107,7 +107,7 @@ pub fn pop_front(words: &mut [u32], ends: Ends) -> Listed
         };
     }
     let first = Cursor::null(ends).next_place(words, ends);
-    let r = edit::remove::unlink(words, ends, first);
+    let r = remove::unlink(words, ends, first);
     let answer = r.answer;
     let e = r.ends;
     Listed { answer, ends: e }
@@ -124,7 +124,7 @@ pub fn pop_back(words: &mut [u32], ends: Ends) -> Listed
         };
     }
     let last = Cursor::null(ends).prev_place(words, ends);
-    let r = edit::remove::unlink(words, ends, last);
+    let r = remove::unlink(words, ends, last);
     let answer = r.answer;
     let e = r.ends;
     Listed { answer, ends: e }

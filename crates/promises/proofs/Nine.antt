@@ -15,7 +15,7 @@ use Rattle.standing.specs.Tests.{linkWith, endsHold, sideHolds, endsTest}
 use Rattle.standing.specs.Tests
 use Rattle.cursor.specs.Cursor.{standTest, nodeTest, someTest}
 use Rattle.cursor.specs.Plain.{Place, at, atNull, nodes, Sound}
-use Rattle.edit.specs.Edits.{replace, replaced}
+use Rattle.remove.specs.Removes.{replace, replaced}
 use Rattle.walk.specs.Marks.{isMarked, paint, sizesFit}
 use Rattle.walk.specs.Walk.{isFree, walkFrom, atTail, walkOf}
 use Rattle.walk.specs.Calls.{verdict, walkAll}

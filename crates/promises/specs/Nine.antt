@@ -12,7 +12,7 @@ use Rattle.standing.specs.Answer.{answerNumber}
 use Rattle.standing.specs.Ends.{endsOf}
 use Rattle.cursor.specs.declared.cursor.Cursor.{Cursor}
 use Rattle.cursor.specs.Cursor.{cursorOf, nullCursor, cursorStands}
-use Rattle.edit.specs.Edits.{replace}
+use Rattle.remove.specs.Removes.{replace}
 use Rattle.walk.specs.Walk.{walkOf}
 use Rattle.walk.specs.Calls.{walkAll}
 

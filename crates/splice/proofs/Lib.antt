@@ -1,2 +1,2 @@
--- What is proved of splices and splits, beside the proof of each function.
+-- What is proved of splices, beside the proof of each function.
 pub mod Laws

@@ -1,3 +1,3 @@
--- What must be believed of splices and splits.
+-- What must be believed of splices, and of calls on two lists.
 pub mod Splices
 pub mod Plain

@@ -1,15 +1,15 @@
--- The plain edits that splices and splits stand for (document 01, 'Edits'), and what is promised of a call. No word is in them.
+-- The plain edits that splices stand for (document 01, 'Edits'), and what is promised of a call on two lists. No word is in them.
+-- The crate `split` has the plain edits of splits, which are promised in the same way.
 use Prim.Native.Nat.{ℕ}
 use mathlib.Core.Path.{_≡_}
-use mathlib.Core.List.{List, [], _∷_, _++_}
+use mathlib.Core.List.{List, [], _++_}
 use lib.Bits.{bitXor}
 use lib.ListN.{length, getD}
 use Rattle.words.specs.Names.{isLinked}
 use Rattle.words.specs.Pool.{Outcome}
 use Rattle.words.specs.Listing.{Off, Apart, Listing}
-use Rattle.standing.specs.declared.answer.Refusal.the-variants.{NotEmpty}
 use Rattle.standing.specs.declared.answer.Answer.{Answer}
-use Rattle.standing.specs.declared.answer.Answer.the-variants.{Done, Refused}
+use Rattle.standing.specs.declared.answer.Answer.the-variants.{Done}
 use Rattle.cursor.specs.declared.cursor.Parted.{Parted}
 use Rattle.cursor.specs.Plain.{Place, at, atNull, nodes, Sound}
 
@@ -30,20 +30,6 @@ plainSpliceAfter ys (atNull xs) = two Done (atNull (ys ++ xs)) []
 abbrev pub plainSpliceBefore : List ℕ → Place → PlainTwo
 plainSpliceBefore ys (at L x R) = two Done (at (L ++ ys) x R) []
 plainSpliceBefore ys (atNull xs) = two Done (atNull (xs ++ ys)) []
-
--- What is beyond, or ahead of, the node of the place moves out, and the node stays; at null everything moves out. 6 if the
--- other sequence is not empty, even if nothing would move.
-abbrev pub plainSplitAfter : List ℕ → Place → PlainTwo
-plainSplitAfter [] (at L x R) = two Done (at L x []) R
-plainSplitAfter [] (atNull xs) = two Done (atNull []) xs
-plainSplitAfter (y ∷ ys) (at L x R) = two (Refused NotEmpty) (at L x R) (y ∷ ys)
-plainSplitAfter (y ∷ ys) (atNull xs) = two (Refused NotEmpty) (atNull xs) (y ∷ ys)
-
-abbrev pub plainSplitBefore : List ℕ → Place → PlainTwo
-plainSplitBefore [] (at L x R) = two Done (at [] x R) L
-plainSplitBefore [] (atNull xs) = two Done (atNull []) xs
-plainSplitBefore (y ∷ ys) (at L x R) = two (Refused NotEmpty) (at L x R) (y ∷ ys)
-plainSplitBefore (y ∷ ys) (atNull xs) = two (Refused NotEmpty) (atNull xs) (y ∷ ys)
 
 -- What is promised of a call on two sound lists that share no node: the same answer; the words and the ends of both new
 -- sequences, with a true cursor at its place; every linked mark as it was; every listing of a third list that shares no

@@ -1,9 +1,9 @@
 -- What the edits share: tests that pass, a node acquired, marks. Assumes nothing.
 use mathlib.Core.Path.{_≡_, refl, sym, ap, _∙_}
 use mathlib.Core.Logic.{_≢_, ⊎-elim}
-use mathlib.Core.Bool.{Bool, true, false, not, cond, _&&_, _||_, or-true}
-use mathlib.Core.List.{List, [], _∷_, _++_}
-use Prim.Native.Nat.{ℕ, _+_, _*_, _^_, _<_, _≤_}
+use mathlib.Core.Bool.{true, false, cond, or-true}
+use mathlib.Core.List.{List, [], _∷_}
+use Prim.Native.Nat.{ℕ, _^_, _<_}
 use native.Mathlib.Omega.{arith}
 use lib.Bits.{bitXor}
 use lib.Dec.{ltb, eqb}
@@ -14,24 +14,25 @@ use Rattle.words.specs.declared.names.Name.{Name}
 use Rattle.words.specs.Names.{name, isNull, poolLimit, poolFits, naming, isLinked}
 use Rattle.words.specs.Pool.{putAt, Outcome, outcome}
 use Rattle.words.specs.LinkOps.{linkedAt, acquireLink}
-use Rattle.words.specs.Listing.{All, Off, Apart, front, back, Listing}
+use Rattle.words.specs.Listing.{All, Off, front, back, Listing}
 use Rattle.words.proofs.Laws.Nodes.{all-map, all-both}
 use Rattle.words.proofs.Laws.Pool.{word-name, changes-put}
 use Rattle.words.proofs.Laws.Listing.{listing-frame, xor-unlinked-off}
 use Rattle.words.proofs.Laws.Part.{away-node}
 use Rattle.words.proofs.Laws.Cases.{same-or-not}
 use Rattle.words.proofs.Laws.Chain.{lastOf, back-last}
-use Rattle.words.proofs.Laws.Outside.{Outside, listing-outside, listing-linked, unlinked-word, marks-agree}
+use Rattle.words.proofs.Laws.Outside.{Outside, unlinked-word, marks-agree}
 use Rattle.standing.specs.declared.answer.Refusal.the-variants.{NoSuchNode}
 use Rattle.standing.specs.declared.answer.Answer.the-variants.{Done}
 use Rattle.standing.specs.declared.ends.Ends.{Ends}
 use Rattle.standing.specs.Answer.{need}
 use Rattle.standing.proofs.Laws.Holds.{name-null}
 use Rattle.cursor.specs.declared.cursor.Cursor.{Cursor}
-use Rattle.cursor.specs.Cursor.{nodeTest}
-use Rattle.cursor.specs.Plain.{Place, at, atNull, nodes, TrueAt, Sound}
+use Rattle.cursor.specs.declared.cursor.Edited.{Edited}
+use Rattle.cursor.specs.Cursor.{edited, nodeTest}
+use Rattle.cursor.specs.Plain.{Place, nodes, Sound}
 use Rattle.cursor.proofs.Laws.Sound.{sound-test}
-use Rattle.edit.specs.Plain.{linking, unlinking, linkedIn}
+use Rattle.edit.specs.Plain.{Plain, plain, linking, unlinking, Does, linkedIn}
 
 -- the name of a node of a pool within the limit
 abbrev pub named : ℕ → Name
@@ -46,6 +47,12 @@ pub sound-node-test : (ws : List ℕ) (e : Ends) (c : Cursor) (z : Place) (i : N
     → nodeTest ws e c i ≡ need (ltb (i .0) (length ws)) NoSuchNode Done
 unfolding nodeTest
 sound-node-test ws e c z i f s = rw (sound-test ws e c z f s)
+
+-- a call that is refused leaves everything
+pub refused-does : (ws : List ℕ) (e : Ends) (c : Cursor) (z : Place) → Sound ws e c z → (o : Outcome Edited) (d : Plain)
+    → (a : Rattle.standing.specs.declared.answer.Answer.Answer) → o ≡ outcome ws (edited a e c) → d ≡ plain a z (linkedIn ws) → Does ws z o d
+refused-does ws e c z s o d a p q =
+    rw (p, q) (record { answer = refl; sound = s; marks = λ j. refl; others = λ h t ys l ap'. l; kept = λ j a b. refl; long = refl })
 
 -- ---- a node acquired
 

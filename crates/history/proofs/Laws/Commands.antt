@@ -24,20 +24,29 @@ use Rattle.cursor.specs.Plain.{Place, at, atNull, nodes, nextPlace, prevPlace, 
 use Rattle.cursor.specs.Moves.{moveNext, movePrev, movedNext, movedPrev}
 use Rattle.cursor.proofs.Laws.Moves.{move-next-does, move-prev-does}
 use Rattle.cursor.proofs.Laws.Sound.{sound-ends-test}
-use Rattle.edit.specs.Edits.{insertAfter, insertBefore, remove, replace}
-use Rattle.edit.specs.Plain.{linkedIn, placeAfter, placeBefore, plainInsertAfter, plainInsertBefore, plainRemove, plainReplace}
-use Rattle.edit.proofs.Laws.Insert.{insert-after-does}
-use Rattle.edit.proofs.Laws.Mirror.{insert-before-does}
-use Rattle.edit.proofs.Laws.Remove.{remove-does}
-use Rattle.edit.proofs.Laws.Replace.{replace-does}
-use Rattle.edit.proofs.Laws.Few.{insert-after-few, insert-before-few, remove-few, replace-few}
-use Rattle.splice.specs.Splices.{spliceAfter, spliceBefore, splitAfter, splitBefore}
-use Rattle.splice.specs.Plain.{plainSpliceAfter, plainSpliceBefore, plainSplitAfter, plainSplitBefore}
+use Rattle.insert.specs.Inserts.{insertAfter, insertBefore}
+use Rattle.remove.specs.Removes.{remove, replace}
+use Rattle.edit.specs.Plain.{linkedIn}
+use Rattle.insert.specs.Plain.{placeAfter, placeBefore, plainInsertAfter, plainInsertBefore}
+use Rattle.remove.specs.Plain.{plainRemove, plainReplace}
+use Rattle.insert.proofs.Laws.Insert.{insert-after-does}
+use Rattle.insert.proofs.Laws.Mirror.{insert-before-does}
+use Rattle.remove.proofs.Laws.Remove.{remove-does}
+use Rattle.remove.proofs.Laws.Replace.{replace-does}
+use Rattle.insert.proofs.Laws.Few.{insert-after-few, insert-before-few}
+use Rattle.remove.proofs.Laws.Few.{remove-few, replace-few}
+use Rattle.splice.specs.Splices.{spliceAfter, spliceBefore}
+use Rattle.split.specs.Splits.{splitAfter, splitBefore}
+use Rattle.splice.specs.Plain.{plainSpliceAfter, plainSpliceBefore}
+use Rattle.split.specs.Plain.{plainSplitAfter, plainSplitBefore}
 use Rattle.splice.proofs.Laws.Splice.{splice-after-does}
-use Rattle.splice.proofs.Laws.Split.{split-after-does}
-use Rattle.splice.proofs.Laws.Mirror.{splice-before-does, split-before-does}
-use Rattle.splice.proofs.Laws.Few.{splice-after-few, splice-before-few, split-after-few, split-before-few}
-use Rattle.splice.proofs.Laws.Refused.{splice-after-unchanged, splice-before-unchanged, split-after-unchanged, split-before-unchanged}
+use Rattle.split.proofs.Laws.Split.{split-after-does}
+use Rattle.splice.proofs.Laws.Mirror.{splice-before-does}
+use Rattle.split.proofs.Laws.Mirror.{split-before-does}
+use Rattle.splice.proofs.Laws.Few.{splice-after-few, splice-before-few}
+use Rattle.split.proofs.Laws.Few.{split-after-few, split-before-few}
+use Rattle.splice.proofs.Laws.Refused.{splice-after-unchanged, splice-before-unchanged}
+use Rattle.split.proofs.Laws.Refused.{split-after-unchanged, split-before-unchanged}
 use Rattle.list.specs.Lists.{pushFront, pushBack, popFront, popBack, take, fastClear, reversed}
 use Rattle.list.specs.Plain.{plainPushFront, plainPushBack, plainPopFront, plainPopBack}
 use Rattle.list.proofs.Laws.Pushes.{sound-null, push-front-does, push-back-does}

@@ -10,8 +10,10 @@ use Rattle.standing.specs.declared.answer.Answer.{Answer}
 use Rattle.standing.specs.declared.answer.Answer.the-variants.{Done, Refused}
 use Rattle.standing.specs.Answer.{answerNumber, need, isRefused}
 use Rattle.cursor.specs.Plain.{Place, at, atNull, nodes, nextPlace, prevPlace}
-use Rattle.edit.specs.Plain.{plainInsertAfter, plainInsertBefore, plainRemove, plainReplace}
-use Rattle.splice.specs.Plain.{plainSpliceAfter, plainSpliceBefore, plainSplitAfter, plainSplitBefore}
+use Rattle.insert.specs.Plain.{plainInsertAfter, plainInsertBefore}
+use Rattle.remove.specs.Plain.{plainRemove, plainReplace}
+use Rattle.splice.specs.Plain.{plainSpliceAfter, plainSpliceBefore}
+use Rattle.split.specs.Plain.{plainSplitAfter, plainSplitBefore}
 use Rattle.lines.specs.declared.line.Order.{Order}
 use Rattle.lines.specs.declared.line.Parsed.{Parsed}
 use Rattle.lines.specs.declared.line.Parsed.the-variants.{Right, Malformed as Wrong}

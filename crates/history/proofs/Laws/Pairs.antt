@@ -20,13 +20,18 @@ use Rattle.standing.specs.Ends.{emptyEnds}
 use Rattle.standing.proofs.Laws.Ladder.{not-both}
 use Rattle.cursor.specs.Cursor.{nullCursor}
 use Rattle.cursor.specs.Plain.{Place, at, atNull, nodes, Sound}
-use Rattle.splice.specs.Splices.{spliceAfter, spliceBefore, splitAfter, splitBefore}
-use Rattle.splice.specs.Plain.{plainSpliceAfter, plainSpliceBefore, plainSplitAfter, plainSplitBefore}
+use Rattle.splice.specs.Splices.{spliceAfter, spliceBefore}
+use Rattle.split.specs.Splits.{splitAfter, splitBefore}
+use Rattle.splice.specs.Plain.{plainSpliceAfter, plainSpliceBefore}
+use Rattle.split.specs.Plain.{plainSplitAfter, plainSplitBefore}
 use Rattle.splice.proofs.Laws.Splice.{splice-after-does}
-use Rattle.splice.proofs.Laws.Split.{split-after-does}
-use Rattle.splice.proofs.Laws.Mirror.{splice-before-does, split-before-does}
-use Rattle.splice.proofs.Laws.Few.{splice-after-few, splice-before-few, split-after-few, split-before-few}
-use Rattle.splice.proofs.Laws.Refused.{splice-after-unchanged, splice-before-unchanged, split-after-unchanged, split-before-unchanged}
+use Rattle.split.proofs.Laws.Split.{split-after-does}
+use Rattle.splice.proofs.Laws.Mirror.{splice-before-does}
+use Rattle.split.proofs.Laws.Mirror.{split-before-does}
+use Rattle.splice.proofs.Laws.Few.{splice-after-few, splice-before-few}
+use Rattle.split.proofs.Laws.Few.{split-after-few, split-before-few}
+use Rattle.splice.proofs.Laws.Refused.{splice-after-unchanged, splice-before-unchanged}
+use Rattle.split.proofs.Laws.Refused.{split-after-unchanged, split-before-unchanged}
 use Rattle.list.specs.Lists.{take}
 use Rattle.list.proofs.Laws.Pushes.{sound-null}
 use Rattle.list.proofs.Laws.Ends.{take-empty, take-full}

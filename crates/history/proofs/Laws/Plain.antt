@@ -13,7 +13,9 @@ use Rattle.standing.specs.declared.answer.Answer.the-variants.{Done}
 use Rattle.standing.specs.Answer.{isRefused}
 use Rattle.cursor.specs.Plain.{Place, at, atNull, nodes, mirror, nextPlace, prevPlace}
 use Rattle.cursor.proofs.Laws.Mirror.{mirror-nodes}
-use Rattle.edit.specs.Plain.{Plain, plain, linking, unlinking, placeAfter, placeBefore, freeTest, placeWithout, plainRemove, plainReplace}
+use Rattle.edit.specs.Plain.{Plain, plain, linking, unlinking, freeTest}
+use Rattle.insert.specs.Plain.{placeAfter, placeBefore}
+use Rattle.remove.specs.Plain.{placeWithout, plainRemove, plainReplace}
 use Rattle.audit.specs.Audit.{bit}
 use Rattle.history.specs.History.{times}
 use Rattle.history.proofs.Laws.Counts.{times-append, times-reverse}

@@ -10,8 +10,9 @@ use Rattle.standing.specs.declared.ends.Ends.{Ends}
 use Rattle.standing.specs.Answer.{isRefused}
 use Rattle.cursor.specs.Cursor.{nullCursor}
 use Rattle.cursor.specs.Moves.{movedNext, movedPrev}
-use Rattle.edit.specs.Edits.{removed}
-use Rattle.edit.proofs.Laws.Few.{insert-after-few, insert-before-few, removed-few}
+use Rattle.remove.specs.Removes.{removed}
+use Rattle.insert.proofs.Laws.Few.{insert-after-few, insert-before-few}
+use Rattle.remove.proofs.Laws.Few.{removed-few}
 use Rattle.list.specs.declared.list.Listed.{Listed}
 use Rattle.list.specs.Lists.{listed, withoutCursor, pushFront, pushBack, popTest, popFront, popBack}
 

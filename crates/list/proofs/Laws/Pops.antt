@@ -20,9 +20,10 @@ use Rattle.cursor.specs.Plain.{Place, at, atNull, nodes, mirror, nextPlace, pre
 use Rattle.cursor.proofs.Laws.Mirror.{mirror-nodes}
 use Rattle.cursor.proofs.Laws.Moves.{next-sound, prev-sound}
 use Rattle.cursor.proofs.Laws.Sound.{sound-ends-test}
-use Rattle.edit.specs.Edits.{removed}
-use Rattle.edit.specs.Plain.{plainRemove, linkedIn}
-use Rattle.edit.proofs.Laws.Remove.{removed-does}
+use Rattle.remove.specs.Removes.{removed}
+use Rattle.remove.specs.Plain.{plainRemove}
+use Rattle.edit.specs.Plain.{linkedIn}
+use Rattle.remove.proofs.Laws.Remove.{removed-does}
 use Rattle.list.specs.Lists.{listed, withoutCursor, popTest, popFront, popBack}
 use Rattle.list.specs.Plain.{asList, plainPopFront, plainPopBack, DoesList}
 use Rattle.list.proofs.Laws.Pushes.{sound-null, does-list}

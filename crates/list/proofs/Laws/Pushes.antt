@@ -14,8 +14,8 @@ use Rattle.cursor.specs.declared.cursor.Edited.{Edited}
 use Rattle.cursor.specs.Cursor.{nullCursor}
 use Rattle.cursor.specs.Plain.{Place, atNull, nodes, Sound}
 use Rattle.edit.specs.Plain.{Plain, Does, linkedIn}
-use Rattle.edit.proofs.Laws.Insert.{insert-after-does}
-use Rattle.edit.proofs.Laws.Mirror.{insert-before-does}
+use Rattle.insert.proofs.Laws.Insert.{insert-after-does}
+use Rattle.insert.proofs.Laws.Mirror.{insert-before-does}
 use Rattle.list.specs.Lists.{withoutCursor, pushFront, pushBack}
 use Rattle.list.specs.Plain.{PlainList, asList, plainPushFront, plainPushBack, DoesList}
 

@@ -12,8 +12,11 @@ use Rattle.cursor.specs.declared.cursor.Cursor.{Cursor}
 use Rattle.cursor.specs.declared.cursor.Edited.{Edited}
 use Rattle.cursor.specs.Cursor.{nullCursor}
 use Rattle.cursor.specs.Moves.{movedNext, movedPrev}
-use Rattle.edit.specs.Edits.{insertAfter, insertBefore, removed}
-use Rattle.edit.proofs.Laws.Refused.{Unchanged, removed-done, insert-after-unchanged, insert-before-unchanged}
+use Rattle.insert.specs.Inserts.{insertAfter, insertBefore}
+use Rattle.remove.specs.Removes.{removed}
+use Rattle.edit.proofs.Laws.Refused.{Unchanged}
+use Rattle.remove.proofs.Laws.Refused.{removed-done}
+use Rattle.insert.proofs.Laws.Refused.{insert-after-unchanged, insert-before-unchanged}
 use Rattle.list.specs.declared.list.Listed.{Listed}
 use Rattle.list.specs.Lists.{listed, withoutCursor, pushFront, pushBack, popTest, popFront, popBack}
 

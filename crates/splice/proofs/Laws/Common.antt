@@ -1,16 +1,16 @@
 -- What splices and splits share. Assumes nothing.
-use mathlib.Core.Path.{_≡_, refl, sym, ap, _∙_}
+use mathlib.Core.Path.{_≡_, refl, ap}
 use mathlib.Core.Logic.{_≢_}
-use mathlib.Core.Bool.{Bool, true, false}
+use mathlib.Core.Bool.{true, false}
 use mathlib.Core.List.{List, [], _∷_, _++_}
 use Prim.Native.Nat.{ℕ}
 use lib.Bits.{bitXor}
-use lib.ListN.{length, getD}
-use Rattle.words.specs.Names.{isNull, isLinked}
+use lib.ListN.{getD}
+use Rattle.words.specs.Names.{isLinked}
 use Rattle.words.specs.Pool.{Outcome, outcome}
-use Rattle.words.specs.Listing.{All, Off, Apart, front, back, Listing}
+use Rattle.words.specs.Listing.{All, Off, Apart, Listing}
 use Rattle.words.proofs.Laws.Nodes.{all-map, all-both, all-append}
-use Rattle.words.proofs.Laws.Outside.{Outside, listing-outside, marks-agree}
+use Rattle.words.proofs.Laws.Outside.{Outside, marks-agree}
 use Rattle.standing.specs.declared.answer.Answer.{Answer}
 use Rattle.standing.specs.declared.ends.Ends.{Ends}
 use Rattle.standing.specs.Ends.{isEmpty}
@@ -18,7 +18,7 @@ use Rattle.standing.proofs.Laws.Holds.{name-null}
 use Rattle.cursor.specs.declared.cursor.Cursor.{Cursor}
 use Rattle.cursor.specs.declared.cursor.Parted.{Parted}
 use Rattle.cursor.specs.Cursor.{parted}
-use Rattle.cursor.specs.Plain.{Place, nodes, Sound}
+use Rattle.cursor.specs.Plain.{Place, Sound}
 use Rattle.splice.specs.Plain.{PlainTwo, two, DoesTwo}
 
 -- a call that leaves everything as it is

@@ -1,21 +1,17 @@
--- No splice changes more than four words, and no split more than two, for any words, ends and cursor. Assumes nothing.
-use mathlib.Core.Path.{_≡_, refl}
-use mathlib.Core.Bool.{Bool, true, false, cond, _||_}
+-- No splice changes more than four words, for any words, ends and cursor. Assumes nothing.
+use mathlib.Core.Bool.{_||_}
 use mathlib.Core.List.{List, [], _∷_}
 use Prim.Native.Nat.{ℕ}
 use lib.Dec.{lit≤}
-use Rattle.words.specs.Names.{isNull}
-use Rattle.words.specs.Pool.{Outcome, outcome}
-use Rattle.words.specs.Changes.{Changes, AtMostFour}
-use Rattle.words.proofs.Laws.Pool.{changes-then, few-unless}
-use Rattle.words.proofs.Laws.Between.{splice-changes, changes-trade, changes-set}
+use Rattle.words.specs.Changes.{AtMostFour}
+use Rattle.words.proofs.Laws.Pool.{few-unless}
+use Rattle.words.proofs.Laws.Between.{splice-changes}
 use Rattle.standing.specs.declared.ends.Ends.{Ends}
 use Rattle.standing.specs.Answer.{isRefused}
 use Rattle.standing.specs.Ends.{isEmpty}
 use Rattle.cursor.specs.declared.cursor.Cursor.{Cursor}
-use Rattle.cursor.specs.declared.cursor.Parted.{Parted}
-use Rattle.cursor.specs.Cursor.{pairTest, splitTest}
-use Rattle.splice.specs.Splices.{splicedAfter, splicedBefore, spliceAfter, spliceBefore, cutAfter, cutBefore, splitAfter, splitBefore}
+use Rattle.cursor.specs.Cursor.{pairTest}
+use Rattle.splice.specs.Splices.{splicedAfter, splicedBefore, spliceAfter, spliceBefore}
 
 pub splice-after-few : (ws : List ℕ) (e : Ends) (c : Cursor) (o : Ends) → AtMostFour ws (spliceAfter ws e c o .words)
 unfolding spliceAfter splicedAfter
@@ -36,25 +32,3 @@ splice-before-few ws e c o =
       few = lit≤ tt;
       changes = splice-changes ws (o .head .0) (o .tail .0) (c .prev .0) (c .current .0);
     })
-
-pub split-after-few : (ws : List ℕ) (e : Ends) (c : Cursor) (o : Ends) → AtMostFour ws (splitAfter ws e c o .words)
-unfolding splitAfter cutAfter
-split-after-few ws e c o =
-    few-unless (isRefused (splitTest ws e c o)) ws _ _
-    (few-unless (isNull (c .current)) ws _ _
-    (record {
-      names = c .next .0 ∷ c .current .0 ∷ [];
-      few = lit≤ tt;
-      changes = changes-then (c .next .0 ∷ []) (c .current .0 ∷ []) ws _ _ (changes-trade ws (c .next .0) (c .current .0) 0) (changes-set _ (c .current .0) (c .prev .0) 0);
-    }))
-
-pub split-before-few : (ws : List ℕ) (e : Ends) (c : Cursor) (o : Ends) → AtMostFour ws (splitBefore ws e c o .words)
-unfolding splitBefore cutBefore
-split-before-few ws e c o =
-    few-unless (isRefused (splitTest ws e c o)) ws _ _
-    (few-unless (isNull (c .current)) ws _ _
-    (record {
-      names = c .prev .0 ∷ c .current .0 ∷ [];
-      few = lit≤ tt;
-      changes = changes-then (c .prev .0 ∷ []) (c .current .0 ∷ []) ws _ _ (changes-trade ws (c .prev .0) (c .current .0) 0) (changes-set _ (c .current .0) 0 (c .next .0));
-    }))

@@ -1,37 +1,33 @@
--- Splice before and split before are splice after and split after in the mirror, and so do their plain edits. Assumes nothing.
-use mathlib.Core.Path.{_≡_, refl, sym, ap, _∙_}
+-- Splice before is splice after in the mirror, and so does its plain edit. Assumes nothing.
+use mathlib.Core.Path.{_≡_}
 use mathlib.Core.Logic.{_≢_}
-use mathlib.Core.Bool.{Bool, true, false, cond, _||_}
-use mathlib.Core.List.{List, [], _∷_, _++_, reverse, reverse-append, reverse-reverse, append-nil}
+use mathlib.Core.Bool.{Bool, true, false, cond}
+use mathlib.Core.List.{List, [], _∷_, reverse, reverse-append, reverse-reverse, append-nil}
 use Prim.Native.Nat.{ℕ}
 use lib.Bits.{bitXor}
 use lib.Dec.{eqb}
 use lib.ListN.{length}
-use Rattle.words.specs.Names.{null, isNull, poolFits}
-use Rattle.words.specs.Pool.{putAt, Outcome, outcome}
-use Rattle.words.specs.LinkOps.{setLink, replaceNextOrPrev, spliceBetween}
+use Rattle.words.specs.Names.{isNull, poolFits}
+use Rattle.words.specs.Pool.{Outcome, outcome}
 use Rattle.words.specs.Listing.{Apart, Off, Listing}
-use Rattle.words.proofs.Laws.Xor.{xor-comm}
 use Rattle.words.proofs.Laws.Nodes.{all-map, all-reverse}
 use Rattle.words.proofs.Laws.Chain.{back-last, lastOf}
 use Rattle.words.proofs.Laws.Between.{splice-mirror}
 use Rattle.words.proofs.Laws.Listing.{xor-listing-reverse}
-use Rattle.standing.specs.declared.answer.Refusal.the-variants.{NotEmpty}
-use Rattle.standing.specs.declared.answer.Answer.the-variants.{Done, Refused}
+use Rattle.standing.specs.declared.answer.Answer.the-variants.{Done}
 use Rattle.standing.specs.declared.ends.Ends.{Ends}
 use Rattle.standing.specs.Ends.{endsOf, emptyEnds, isEmpty, turned}
 use Rattle.standing.proofs.Laws.Holds.{name-null}
 use Rattle.cursor.specs.declared.cursor.Cursor.{Cursor}
 use Rattle.cursor.specs.declared.cursor.Parted.{Parted}
-use Rattle.cursor.specs.Cursor.{cursorOf, nullCursor, turnedCursor, parted, splitTest}
+use Rattle.cursor.specs.Cursor.{cursorOf, nullCursor, turnedCursor, parted}
 use Rattle.cursor.specs.Plain.{Place, at, atNull, nodes, mirror, Sound}
 use Rattle.cursor.proofs.Laws.Mirror.{mirror-nodes, sound-mirror}
 use Rattle.cursor.proofs.Laws.Sound.{sound-pair}
-use Rattle.splice.specs.Splices.{splicedAfter, splicedBefore, spliceAfter, spliceBefore, cutAfter, cutBefore, cutAtNull, splitAfter, splitBefore}
-use Rattle.splice.specs.Plain.{PlainTwo, two, plainSpliceAfter, plainSpliceBefore, plainSplitAfter, plainSplitBefore, DoesTwo}
+use Rattle.splice.specs.Splices.{splicedAfter, splicedBefore, spliceAfter, spliceBefore}
+use Rattle.splice.specs.Plain.{PlainTwo, two, plainSpliceAfter, plainSpliceBefore, DoesTwo}
 use Rattle.splice.proofs.Laws.Common.{same-does, empty-is, some-is}
 use Rattle.splice.proofs.Laws.Splice.{splice-after-does}
-use Rattle.splice.proofs.Laws.Split.{split-after-does}
 
 -- what a call leaves, seen from the other side
 abbrev pub turnedParted : Outcome Parted → Outcome Parted
@@ -58,18 +54,12 @@ spliced-mirror ws e c o = go (isNull (c .current)) (splice-mirror ws (o .head .0
     go true p = rw p
     go false p = rw p
 
-pub cut-mirror : (ws : List ℕ) (e : Ends) (c : Cursor) → cutBefore ws e c ≡ turnedParted (cutAfter ws (turned e) (turnedCursor c))
-unfolding cutBefore cutAfter setLink
-cut-mirror ws e c =
-    let r = parted Done (endsOf (c .current) (e .tail)) (cursorOf (c .current) null (c .next)) (endsOf (cond (isNull (c .prev)) null (e .head)) (c .prev)) in
-    ap (λ (v : ℕ). outcome (putAt (replaceNextOrPrev ws (c .prev .0) (c .current .0) 0) (c .current .0) v) r) (xor-comm 0 (c .next .0))
-
 -- ---- a promise kept in the mirror is kept
 
-apart-turned : (vs xs : List ℕ) → Apart vs xs → Apart vs (reverse xs)
+pub apart-turned : (vs xs : List ℕ) → Apart vs xs → Apart vs (reverse xs)
 apart-turned vs xs a = all-map (λ v. Off v xs) (λ v. Off v (reverse xs)) (λ v h. all-reverse (λ x. x ≢ v) xs h) vs a
 
-does-mirror : (ws : List ℕ) (z : Place) (ys : List ℕ) (o : Outcome Parted) (d : PlainTwo) → DoesTwo ws (mirror z) (reverse ys) o d
+pub does-mirror : (ws : List ℕ) (z : Place) (ys : List ℕ) (o : Outcome Parted) (d : PlainTwo) → DoesTwo ws (mirror z) (reverse ys) o d
     → DoesTwo ws z ys (turnedParted o) (turnedTwo d)
 does-mirror ws z ys o d k =
     record {
@@ -82,7 +72,7 @@ does-mirror ws z ys o d k =
       long = k .long;
     }
 
--- ---- the calls
+-- ---- the call
 
 module _ (ws : List ℕ) (e : Ends) (c : Cursor) (o : Ends) (f : poolFits (length ws) ≡ true) where
   splice-plain : (z : Place) (ys : List ℕ) → plainSpliceBefore ys z ≡ turnedTwo (plainSpliceAfter (reverse ys) (mirror z))
@@ -118,36 +108,3 @@ module _ (ws : List ℕ) (e : Ends) (c : Cursor) (o : Ends) (f : poolFits (lengt
       rw (mirror-nodes z) (apart-turned (reverse (nodes z)) (y ∷ ys) (all-reverse (λ x. Off x (y ∷ ys)) (nodes z) a)) in
       rw (before-some z y ys s l, spliced-mirror ws e c o, splice-plain z (y ∷ ys), ← (after-some (mirror z) (reverse (y ∷ ys)) m k n))
       (does-mirror ws z (y ∷ ys) _ _ (splice-after-does ws (turned e) (turnedCursor c) (turned o) f (mirror z) (reverse (y ∷ ys)) m k a'))
-
-  split-plain : (z : Place) → plainSplitBefore [] z ≡ turnedTwo (plainSplitAfter [] (mirror z))
-  split-plain (at L x R) = rw (reverse-reverse L, reverse-reverse R)
-  split-plain (atNull xs) = rw (reverse-reverse xs)
-
-  split-full : (z : Place) (y : ℕ) (ys : List ℕ) → Sound ws e c z → Listing bitXor ws (o .head .0) (o .tail .0) (y ∷ ys)
-      → splitBefore ws e c o ≡ outcome ws (parted (Refused NotEmpty) e c o)
-  unfolding splitBefore splitTest
-  split-full z y ys s l = rw (sound-pair ws e c z o (y ∷ ys) f s l, some-is ws o y ys l)
-
-  split-turned : (z : Place) → Sound ws e c z → Listing bitXor ws (o .head .0) (o .tail .0) []
-      → splitBefore ws e c o ≡ turnedParted (splitAfter ws (turned e) (turnedCursor c) (turned o))
-  unfolding splitBefore splitAfter splitTest cutAtNull
-  split-turned z s l =
-      let k = xor-listing-reverse ws (o .head .0) (o .tail .0) [] l in
-      rw (sound-pair ws e c z o [] f s l, empty-is ws o l, sound-pair ws (turned e) (turnedCursor c) (mirror z) (turned o) [] f (sound-mirror ws e c z s) k, empty-is ws (turned o) k)
-      (go (isNull (c .current)))
-    where
-      go : (b : Bool) → cond b (outcome ws (parted Done emptyEnds (nullCursor emptyEnds) e)) (cutBefore ws e c)
-          ≡ turnedParted (cond b (outcome ws (parted Done emptyEnds (nullCursor emptyEnds) (turned e))) (cutAfter ws (turned e) (turnedCursor c)))
-      go true = refl
-      go false = cut-mirror ws e c
-
-  pub split-before-does : (z : Place) (ys : List ℕ) → Sound ws e c z → Listing bitXor ws (o .head .0) (o .tail .0) ys
-      → DoesTwo ws z ys (splitBefore ws e c o) (plainSplitBefore ys z)
-  split-before-does (at L x R) (y ∷ ys) s l =
-      same-does ws e c (at L x R) o (y ∷ ys) s l _ _ (Refused NotEmpty) (split-full (at L x R) y ys s l) refl
-  split-before-does (atNull xs) (y ∷ ys) s l =
-      same-does ws e c (atNull xs) o (y ∷ ys) s l _ _ (Refused NotEmpty) (split-full (atNull xs) y ys s l) refl
-  split-before-does z [] s l =
-      rw (split-turned z s l, split-plain z)
-      (does-mirror ws z [] _ _
-      (split-after-does ws (turned e) (turnedCursor c) (turned o) f (mirror z) [] (sound-mirror ws e c z s) (xor-listing-reverse ws (o .head .0) (o .tail .0) [] l)))

@@ -1,4 +1,4 @@
--- A refused splice or split changes nothing, for any words, ends and cursor: it hands back what it was given. Assumes nothing.
+-- A refused splice changes nothing, for any words, ends and cursor: it hands back what it was given. Assumes nothing.
 use mathlib.Core.Path.{_≡_, refl, sym, _∙_}
 use mathlib.Core.Bool.{Bool, true, false, cond, _||_}
 use mathlib.Core.List.{List}
@@ -13,14 +13,15 @@ use Rattle.standing.specs.Ends.{isEmpty}
 use Rattle.standing.proofs.Laws.Ladder.{not-both}
 use Rattle.cursor.specs.declared.cursor.Cursor.{Cursor}
 use Rattle.cursor.specs.declared.cursor.Parted.{Parted}
-use Rattle.cursor.specs.Cursor.{parted, pairTest, splitTest}
-use Rattle.splice.specs.Splices.{splicedAfter, splicedBefore, spliceAfter, spliceBefore, cutAfter, cutBefore, cutAtNull, splitAfter, splitBefore}
+use Rattle.cursor.specs.Cursor.{parted, pairTest}
+use Rattle.splice.specs.Splices.{splicedAfter, splicedBefore, spliceAfter, spliceBefore}
 
 -- refused, it is all as it was
 abbrev pub UnchangedTwo : List ℕ → Ends → Cursor → Ends → Outcome Parted → Type 0
 UnchangedTwo ws e c o r = isRefused (r .answer .answer) ≡ true → r ≡ outcome ws (parted (r .answer .answer) e c o)
 
-unless : (b : Bool) (t : Answer) (ws : List ℕ) (e : Ends) (c : Cursor) (o : Ends) (r : Outcome Parted) → isRefused (r .answer .answer) ≡ false
+-- what the tests refuse, and an edit that is made
+pub unless : (b : Bool) (t : Answer) (ws : List ℕ) (e : Ends) (c : Cursor) (o : Ends) (r : Outcome Parted) → isRefused (r .answer .answer) ≡ false
     → UnchangedTwo ws e c o (cond b (outcome ws (parted t e c o)) r)
 unless true t ws e c o r k h = refl
 unless false t ws e c o r k h = absurd (not-both (sym h ∙ k))
@@ -39,11 +40,6 @@ before-done : (ws : List ℕ) (e : Ends) (c : Cursor) (o : Ends) → isRefused (
 unfolding splicedBefore
 before-done ws e c o = either-done (isNull (c .current)) (parted Done _ _ _) (parted Done _ _ _) refl refl
 
-cut-done : (b : Bool) (ws : List ℕ) (x : Parted) (r : Outcome Parted) → isRefused (x .answer) ≡ false → isRefused (r .answer .answer) ≡ false
-    → isRefused (cond b (outcome ws x) r .answer .answer) ≡ false
-cut-done true ws x r h k = h
-cut-done false ws x r h k = k
-
 -- ---- the calls
 
 pub splice-after-unchanged : (ws : List ℕ) (e : Ends) (c : Cursor) (o : Ends) → UnchangedTwo ws e c o (spliceAfter ws e c o)
@@ -55,15 +51,3 @@ pub splice-before-unchanged : (ws : List ℕ) (e : Ends) (c : Cursor) (o : Ends)
 unfolding spliceBefore
 splice-before-unchanged ws e c o =
     unless (isRefused (pairTest ws e c o) || isEmpty o) (pairTest ws e c o) ws e c o (splicedBefore ws e c o) (before-done ws e c o)
-
-pub split-after-unchanged : (ws : List ℕ) (e : Ends) (c : Cursor) (o : Ends) → UnchangedTwo ws e c o (splitAfter ws e c o)
-unfolding splitAfter cutAfter cutAtNull
-split-after-unchanged ws e c o =
-    unless (isRefused (splitTest ws e c o)) (splitTest ws e c o) ws e c o (cond (isNull (c .current)) (outcome ws (cutAtNull e)) (cutAfter ws e c))
-    (cut-done (isNull (c .current)) ws (cutAtNull e) (cutAfter ws e c) refl refl)
-
-pub split-before-unchanged : (ws : List ℕ) (e : Ends) (c : Cursor) (o : Ends) → UnchangedTwo ws e c o (splitBefore ws e c o)
-unfolding splitBefore cutBefore cutAtNull
-split-before-unchanged ws e c o =
-    unless (isRefused (splitTest ws e c o)) (splitTest ws e c o) ws e c o (cond (isNull (c .current)) (outcome ws (cutAtNull e)) (cutBefore ws e c))
-    (cut-done (isNull (c .current)) ws (cutAtNull e) (cutBefore ws e c) refl refl)

@@ -1,30 +1,28 @@
 -- Splice after does its plain edit. Assumes nothing.
 use mathlib.Core.Path.{_≡_, refl, sym, ap, _∙_}
 use mathlib.Core.Logic.{_≢_}
-use mathlib.Core.Bool.{Bool, true, false, cond, _||_}
+use mathlib.Core.Bool.{true, false, cond}
 use mathlib.Core.List.{List, [], _∷_, _++_, append-assoc}
-use Prim.Native.Nat.{ℕ, _+_, _*_}
+use Prim.Native.Nat.{ℕ}
 use lib.Bits.{bitXor}
 use lib.Dec.{eqb}
 use lib.ListN.{length, getD}
 use Rattle.words.specs.Names.{name, isNull, isLinked, poolFits}
-use Rattle.words.specs.Pool.{Outcome, outcome}
+use Rattle.words.specs.Pool.{outcome}
 use Rattle.words.specs.LinkOps.{spliceBetween}
-use Rattle.words.specs.Listing.{All, Off, Apart, front, back, Listing}
+use Rattle.words.specs.Listing.{All, Apart, front, back, Listing}
 use Rattle.words.proofs.Laws.Nodes.{all-append, all-left, all-right}
-use Rattle.words.proofs.Laws.Chain.{front-append, back-append, back-last, lastOf}
+use Rattle.words.proofs.Laws.Chain.{front-append, back-append}
 use Rattle.words.proofs.Laws.Listing.{listing-as}
 use Rattle.words.proofs.Laws.Outside.{Outside, covered-null, covered-here, covered-more, covered-left, covered-right, covered-front, covered-back, changes-outside, listing-outside, listing-linked}
 use Rattle.words.proofs.Laws.Between.{spliced, splice-changes}
 use Rattle.words.proofs.Laws.Cuts.{sides}
 use Rattle.standing.specs.declared.answer.Answer.the-variants.{Done}
 use Rattle.standing.specs.declared.ends.Ends.{Ends}
-use Rattle.standing.specs.Answer.{isRefused}
-use Rattle.standing.specs.Ends.{endsOf, emptyEnds, isEmpty}
+use Rattle.standing.specs.Ends.{endsOf, emptyEnds}
 use Rattle.standing.proofs.Laws.Holds.{name-null}
 use Rattle.cursor.specs.declared.cursor.Cursor.{Cursor}
-use Rattle.cursor.specs.declared.cursor.Parted.{Parted}
-use Rattle.cursor.specs.Cursor.{cursorOf, nullCursor, parted, pairTest}
+use Rattle.cursor.specs.Cursor.{cursorOf, nullCursor, parted}
 use Rattle.cursor.specs.Plain.{Place, at, atNull, nodes, Sound}
 use Rattle.cursor.proofs.Laws.Sound.{sound-pair}
 use Rattle.cursor.proofs.Laws.Swap.{tail-swap, tail-null}

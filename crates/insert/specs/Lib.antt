@@ -1,0 +1,3 @@
+-- What must be believed of inserts.
+pub mod Inserts
+pub mod Plain

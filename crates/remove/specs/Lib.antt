@@ -1,0 +1,3 @@
+-- What must be believed of remove and replace.
+pub mod Removes
+pub mod Plain

@@ -1,0 +1,44 @@
+-- `splice_after` meets its contract. Assumes nothing.
+use borrow.Author.Needs.{needs}
+use Rattle.splice.specs.Splices.{spliceAfter}
+use Rattle.splice.proofs.splice_after.Statement.{statement}
+use Rattle.splice.proofs.splice_after.Tie as tie
+
+pair-test-requires : tie.Need-pair-test-requires
+pair-test-requires c κs = search needs
+
+is-refused-requires : tie.Need-is-refused-requires
+is-refused-requires c κs = search needs
+
+is-empty-requires : tie.Need-is-empty-requires
+is-empty-requires c κs = search needs
+
+same-length : tie.Need-same-length
+same-length c = search needs
+
+returns : tie.Need-returns
+unfolding spliceAfter
+returns c = rw (← (c .before .before .before .pair-test .ensures), ← (c .before .before .is-refused .ensures), ← (c .before .is-empty .ensures), c .if1 .taken)
+
+join-after-requires : tie.Need-join-after-requires
+join-after-requires c κs = search needs
+
+same-length-2 : tie.Need-same-length-2
+same-length-2 c = search needs
+
+returns-2 : tie.Need-returns-2
+unfolding spliceAfter
+returns-2 c = rw (← (c .before .before .before .before .before .before .before .pair-test .ensures), ← (c .before .before .before .before .before .before .is-refused .ensures), ← (c .before .before .before .before .before .is-empty .ensures), c .before .before .before .before .if1 .left) (c .before .before .join-after .ensures)
+
+pub splice-after-spec : {M : Type 1} → statement M
+splice-after-spec =
+    tie.close
+    (tie.spec
+    pair-test-requires
+    is-refused-requires
+    is-empty-requires
+    same-length
+    returns
+    join-after-requires
+    same-length-2
+    returns-2)

@@ -1,0 +1,3 @@
+-- What must be believed of splits.
+pub mod Splits
+pub mod Plain
