@@ -1,13 +1,14 @@
 -- Demand 2 is kept. Assumes nothing.
 use mathlib.Core.Path.{_≡_}
 use Rattle.cursor.proofs.Laws.Moves.{move-next-does, move-prev-does}
-use Rattle.edit.proofs.Laws.Insert.{insert-after-does}
-use Rattle.edit.proofs.Laws.Mirror.{insert-before-does}
-use Rattle.edit.proofs.Laws.Remove.{remove-does}
-use Rattle.edit.proofs.Laws.Replace.{replace-does}
+use Rattle.insert.proofs.Laws.Insert.{insert-after-does}
+use Rattle.insert.proofs.Laws.Mirror.{insert-before-does}
+use Rattle.remove.proofs.Laws.Remove.{remove-does}
+use Rattle.remove.proofs.Laws.Replace.{replace-does}
 use Rattle.splice.proofs.Laws.Splice.{splice-after-does}
-use Rattle.splice.proofs.Laws.Split.{split-after-does}
-use Rattle.splice.proofs.Laws.Mirror.{splice-before-does, split-before-does}
+use Rattle.split.proofs.Laws.Split.{split-after-does}
+use Rattle.splice.proofs.Laws.Mirror.{splice-before-does}
+use Rattle.split.proofs.Laws.Mirror.{split-before-does}
 use Rattle.list.proofs.Laws.Pushes.{push-front-does, push-back-does}
 use Rattle.list.proofs.Laws.Pops.{pop-front-does, pop-back-does}
 use Rattle.list.proofs.Laws.Ends.{take-empty, take-full, fast-clear-does, reverse-does}

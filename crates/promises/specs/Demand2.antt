@@ -19,10 +19,15 @@ use Rattle.cursor.specs.declared.cursor.Cursor.{Cursor}
 use Rattle.cursor.specs.Cursor.{edited}
 use Rattle.cursor.specs.Moves.{movedNext, movedPrev, moveNext, movePrev}
 use Rattle.cursor.specs.Plain.{Place, nodes, nextPlace, prevPlace, Sound}
-use Rattle.edit.specs.Edits.{insertAfter, insertBefore, remove, replace}
-use Rattle.edit.specs.Plain.{linkedIn, plainInsertAfter, plainInsertBefore, plainRemove, plainReplace, Does}
-use Rattle.splice.specs.Splices.{spliceAfter, spliceBefore, splitAfter, splitBefore}
-use Rattle.splice.specs.Plain.{plainSpliceAfter, plainSpliceBefore, plainSplitAfter, plainSplitBefore, DoesTwo}
+use Rattle.edit.specs.Plain.{linkedIn, Does}
+use Rattle.insert.specs.Inserts.{insertAfter, insertBefore}
+use Rattle.insert.specs.Plain.{plainInsertAfter, plainInsertBefore}
+use Rattle.remove.specs.Removes.{remove, replace}
+use Rattle.remove.specs.Plain.{plainRemove, plainReplace}
+use Rattle.splice.specs.Splices.{spliceAfter, spliceBefore}
+use Rattle.splice.specs.Plain.{plainSpliceAfter, plainSpliceBefore, DoesTwo}
+use Rattle.split.specs.Splits.{splitAfter, splitBefore}
+use Rattle.split.specs.Plain.{plainSplitAfter, plainSplitBefore}
 use Rattle.list.specs.Lists.{listed, taken, pushFront, pushBack, popFront, popBack, take, fastClear, reversed}
 use Rattle.list.specs.Plain.{plainPushFront, plainPushBack, plainPopFront, plainPopBack, DoesList}
 use Rattle.walk.specs.Marks.{paint, unmarked, marking}
