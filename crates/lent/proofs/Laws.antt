@@ -3,3 +3,4 @@ pub mod Slices
 pub mod Desk
 pub mod Steps
 pub mod Unique
+pub mod Kept
