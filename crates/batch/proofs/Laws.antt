@@ -4,3 +4,4 @@ pub mod Step
 pub mod Take
 pub mod Place
 pub mod Finish
+pub mod Whole

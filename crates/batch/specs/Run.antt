@@ -77,3 +77,14 @@ took l i e = record { line = l; next = i; ended = e }
 unfoldable pub takeFrom : Line → ℕ → List ℕ → Took
 takeFrom l i [] = took l i false
 takeFrom l i (b ∷ bs) = cond (eqb b 10) (took l (i + 1) true) (takeFrom (fed l b) (i + 1) bs)
+
+-- ---- a whole input
+
+-- The bytes of answers in turn.
+unfoldable pub bytesOfAll : List Reply → List ℕ
+bytesOfAll [] = []
+bytesOfAll (r ∷ rs) = bytesOf r ++ bytesOfAll rs
+
+-- A run that is finished.
+unfoldable pub finished : Running → Running
+finished s = finishOf (s .ran .desk) (s .ran .line) (s .out) (s .ran .wrote)

@@ -67,11 +67,11 @@ at-whole l xs i h e m f k =
 
 -- ---- a run
 
-run-feed : (s : Running) (b : ℕ) (bs : List ℕ) → eqb b 10 ≡ true → runFrom s (b ∷ bs) ≡ runFrom (ended s) bs
+pub run-feed : (s : Running) (b : ℕ) (bs : List ℕ) → eqb b 10 ≡ true → runFrom s (b ∷ bs) ≡ runFrom (ended s) bs
 unfolding runFrom
 run-feed s b bs e = rw e
 
-run-other : (s : Running) (b : ℕ) (bs : List ℕ) → eqb b 10 ≡ false → runFrom s (b ∷ bs) ≡ runFrom (fedTo s b) bs
+pub run-other : (s : Running) (b : ℕ) (bs : List ℕ) → eqb b 10 ≡ false → runFrom s (b ∷ bs) ≡ runFrom (fedTo s b) bs
 unfolding runFrom
 run-other s b bs e = rw e
 

@@ -1,0 +1,3 @@
+-- The laws of the C entry.
+pub mod Count
+pub mod Entry

@@ -1,0 +1,2 @@
+-- What is proved of the C entry.
+pub mod Laws

@@ -1,0 +1,2 @@
+-- What must be believed of the C entry.
+pub mod Entry
