@@ -1,9 +1,9 @@
 // Moves and peeks: to the neighbour, past the end to null, from null to the head or the tail.
 use crate::cursor::Cursor;
 use crate::cursor::Edited;
+use links::link_ops::LinkOps;
 use standing::answer::Answer;
 use standing::ends::Ends;
-use words::link_ops::LinkOps;
 ghost use mathlib.Core.Path.{_≡_};
 ghost use Rattle.cursor.specs.Moves.{movedNext, movedPrev, moveNext, movePrev};
 

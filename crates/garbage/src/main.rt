@@ -8,7 +8,6 @@ mod audits;
 mod edits;
 mod iters;
 mod line;
-mod links;
 mod lists;
 mod marks;
 mod names;
@@ -16,6 +15,7 @@ mod places;
 mod reads;
 mod show;
 mod show_pool;
+mod steps;
 
 use line::Line;
 
@@ -25,7 +25,7 @@ fn run(l: Line) {
     let kind = l.kind;
     match kind {
         b'n' => names::every(a),
-        b's' => links::every(a),
+        b's' => steps::every(a),
         b'e' => edits::every(a),
         b'f' => edits::few(a),
         b'l' => lists::every(a),

@@ -2,10 +2,10 @@
 use crate::args;
 use crate::show;
 use cursor::cursor::either;
+use links::link_ops::Link;
 use standing::answer::Answer;
 use standing::answer::Refusal;
 use standing::ends::Ends;
-use words::link_ops::Link;
 use words::names::Name;
 use words::names::Node;
 

@@ -2,11 +2,11 @@
 use cursor::cursor::Cursor;
 use cursor::cursor::Edited;
 use cursor::cursor::either;
+use links::between::link_between;
+use links::link_ops::LinkOps;
 use standing::answer::Answer;
 use standing::answer::Refusal;
 use standing::ends::Ends;
-use words::between::link_between;
-use words::link_ops::LinkOps;
 use words::names::Name;
 use words::names::Node;
 ghost use mathlib.Core.Path.{_≡_};

@@ -1,8 +1,8 @@
 // `Iter`: four words by value, stepping from both ends until they meet.
+use links::link_ops::LinkOps;
 use standing::answer::Answer;
 use standing::answer::Refusal;
 use standing::ends::Ends;
-use words::link_ops::LinkOps;
 use words::names::Name;
 ghost use mathlib.Core.Path.{_≡_};
 ghost use Rattle.iter.specs.Iter.{iterOf, over, nextBack};

@@ -1,10 +1,10 @@
 // Places by node and claimed neighbour: `cursor_from_ptr_and_prev` and `cursor_from_ptr_and_next`.
 use cursor::cursor::Cursor;
 use cursor::cursor::Edited;
+use links::link_ops::LinkOps;
 use standing::answer::Answer;
 use standing::answer::Refusal;
 use standing::ends::Ends;
-use words::link_ops::LinkOps;
 use words::names::Found;
 use words::names::Name;
 use words::names::Node;

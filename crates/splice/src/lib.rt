@@ -2,9 +2,9 @@
 use cursor::cursor::Cursor;
 use cursor::cursor::Parted;
 use cursor::cursor::either;
+use links::between::splice_between;
 use standing::answer::Answer;
 use standing::ends::Ends;
-use words::between::splice_between;
 ghost use mathlib.Core.Path.{_≡_};
 ghost use Rattle.words.specs.Pool.{outcome};
 ghost use Rattle.splice.specs.Splices.{splicedAfter, splicedBefore, spliceAfter, spliceBefore};

@@ -2,10 +2,10 @@
 use cursor::cursor::Cursor;
 use cursor::cursor::Parted;
 use cursor::cursor::either;
+use links::link_ops::LinkOps;
 use standing::answer::Answer;
 use standing::answer::Refusal;
 use standing::ends::Ends;
-use words::link_ops::LinkOps;
 use words::names::Name;
 ghost use mathlib.Core.Path.{_≡_};
 ghost use Rattle.words.specs.Pool.{outcome};

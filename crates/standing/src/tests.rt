@@ -2,7 +2,7 @@
 use crate::answer::Answer;
 use crate::answer::Refusal;
 use crate::ends::Ends;
-use words::link_ops::LinkOps;
+use links::link_ops::LinkOps;
 use words::names::Name;
 ghost use mathlib.Core.Path.{_≡_};
 ghost use Rattle.standing.specs.Tests.{linkWith, endsHold, sideHolds, endsTest};

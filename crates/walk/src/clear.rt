@@ -1,8 +1,8 @@
 // Clear: every node of a list is released, and the list is empty.
 use crate::walk::walk;
+use links::link_ops::Link;
 use standing::answer::Answer;
 use standing::ends::Ends;
-use words::link_ops::Link;
 ghost use mathlib.Core.Path.{_≡_};
 ghost use mathlib.Core.Bool.{cond};
 ghost use lib.Dec.{eqb};

@@ -1,6 +1,6 @@
 // The step of one list: it follows the chain from the head, and sets a mark on every node that it stands on.
+use links::link_ops::LinkOps;
 use standing::ends::Ends;
-use words::link_ops::LinkOps;
 use words::names::Found;
 use words::names::Name;
 ghost use mathlib.Core.Path.{_≡_};

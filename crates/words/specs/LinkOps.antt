@@ -1,4 +1,4 @@
--- The word steps of `LinkOps` (its xor half), `link_between` and `splice_between`, in the source's order.
+-- The word steps of `LinkOps` (its xor half), `link_between` and `splice_between`, in the source's order. The crate `links` has them.
 -- A step at null or at a word that is no name reads 0 and stores nothing, so the source's tests for `None` need no case.
 use Prim.Native.Nat.{ℕ}
 use mathlib.Core.Bool.{Bool, true, false, cond}

@@ -1,5 +1,4 @@
-// The words of a pool: node numbers and names, links, and the word steps that every list edit is made of.
-// The pool is a lent slice of words, one a node. What each step does is in specs/, for every slice and every number.
-pub mod between;
-pub mod link_ops;
+// The words of a pool: node numbers and names. The pool is a lent slice of words, one a node.
+// specs/ says what each step on words does, for every slice and every number, and what a listing is. The steps themselves
+// are in the crate `links`.
 pub mod names;

@@ -1,0 +1,1 @@
+-- The proof of each function. The laws of their definitions are those of the crate `words`.

@@ -1,0 +1,1 @@
+-- What must be believed of links is in the specs of the crate `words`: Names, Pool and LinkOps.
