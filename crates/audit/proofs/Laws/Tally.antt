@@ -8,7 +8,8 @@ use native.Mathlib.Numerals.{add-one}
 use lib.Dec.{eqb}
 use lib.ListN.{length, getD}
 use borrow.Author.Tests.{leb-true}
-use Rattle.words.specs.Names.{isLinked, poolFits, poolLimit}
+use Rattle.words.specs.Names.{isLinked, poolFits}
+use Rattle.words.proofs.Laws.Names.{fits-small}
 use Rattle.walk.specs.Marks.{isMarked, sizesFit}
 use Rattle.walk.proofs.Laws.Calls.{sizes}
 use Rattle.audit.specs.Audit.{bit, tally, isStranded}
@@ -38,7 +39,7 @@ tally-le (suc n) p =
 pub record Counts (ws ms : List ℕ) (i on off : ℕ) : Type 0 where
   pub fit : sizesFit ws ms ≡ true
   pub long : length ms ≡ length ws
-  pub few : length ws ≤ 4096
+  pub few : length ws ≤ 16777216
   pub within : i ≤ length ws
   pub on-few : on ≤ i
   pub off-few : off ≤ i
@@ -46,10 +47,10 @@ pub record Counts (ws ms : List ℕ) (i on off : ℕ) : Type 0 where
   pub strays : off ≡ tally i (isStranded ws ms)
 
 pub counts-none : (ws ms : List ℕ) → sizesFit ws ms ≡ true → Counts ws ms 0 0 0
-unfolding poolFits poolLimit tally
+unfolding tally
 counts-none ws ms h =
     let s = sizes ws ms h in
-    let f : length ws ≤ 4096 = leb-true (length ws) 4096 (s .fits) in
+    let f : length ws ≤ 16777216 = fits-small (length ws) (s .fits) in
     record { fit = h; long = s .long; few = f; within = omega arith; on-few = omega arith; off-few = omega arith; marked = refl; strays = refl }
 
 pub counts-more : (ws ms : List ℕ) (i on off r r' : ℕ) → Counts ws ms i on off → i < length ws

@@ -11,7 +11,7 @@ use lib.ListN.{length, getD}
 use borrow.Author.Tests.{lt-ltb, leb-true, eq-eqb, ne-eqb}
 use Rattle.words.specs.declared.names.Node.{Node}
 use Rattle.words.specs.declared.names.Name.{Name}
-use Rattle.words.specs.Names.{name, isNull, poolLimit, poolFits, naming, isLinked}
+use Rattle.words.specs.Names.{name, isNull, poolFits, naming, isLinked}
 use Rattle.words.specs.Pool.{putAt, Outcome, outcome}
 use Rattle.words.specs.LinkOps.{linkedAt, acquireLink}
 use Rattle.words.specs.Listing.{All, Off, front, back, Listing}
@@ -31,6 +31,7 @@ use Rattle.cursor.specs.declared.cursor.Cursor.{Cursor}
 use Rattle.cursor.specs.declared.cursor.Edited.{Edited}
 use Rattle.cursor.specs.Cursor.{edited, nodeTest}
 use Rattle.cursor.specs.Plain.{Place, nodes, Sound}
+use Rattle.words.proofs.Laws.Names.{fits-small}
 use Rattle.cursor.proofs.Laws.Sound.{sound-test}
 use Rattle.edit.specs.Plain.{Plain, plain, linking, unlinking, Does, linkedIn}
 
@@ -39,8 +40,8 @@ abbrev pub named : ℕ → Name
 named x = record { 0 = name x }
 
 pub naming-in : (n : ℕ) (i : Node) → poolFits n ≡ true → i .0 < n → naming i ≡ record { 0 = name (i .0) }
-unfolding naming poolFits poolLimit
-naming-in n i f h = let k = leb-true n 4096 f in rw (lt-ltb (name (i .0)) (2 ^ 32) (omega arith))
+unfolding naming
+naming-in n i f h = let k = fits-small n f in rw (lt-ltb (name (i .0)) (2 ^ 32) (omega arith))
 
 -- on a sound list only 7 is left of the tests of a call that takes a node
 pub sound-node-test : (ws : List ℕ) (e : Ends) (c : Cursor) (z : Place) (i : Node) → poolFits (length ws) ≡ true → Sound ws e c z

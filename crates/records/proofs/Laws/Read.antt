@@ -12,10 +12,10 @@ use lib.Seq.{length-take-le}
 use borrow.Author.Tests.{ltb-true, leb-true, eqb-true, not-true}
 use Rattle.words.specs.declared.names.Node.{Node}
 use Rattle.words.specs.declared.names.Found.the-variants.{At, Nothing}
-use Rattle.words.specs.Names.{name, nodeOf, isName, isNull, poolLimit, poolFits, decoding}
+use Rattle.words.specs.Names.{name, nodeOf, isName, isNull, poolFits, decoding}
 use Rattle.words.specs.Listing.{Listing}
 use Rattle.words.proofs.Laws.Cases.{both}
-use Rattle.words.proofs.Laws.Names.{node-name, decoded, undecoded}
+use Rattle.words.proofs.Laws.Names.{fits-small, node-name, decoded, undecoded}
 use Rattle.standing.specs.declared.answer.Refusal.the-variants.{Size, CursorDoesNotStand, AtNull}
 use Rattle.standing.specs.declared.answer.Answer.the-variants.{Done, Refused}
 use Rattle.standing.specs.declared.ends.Ends.{Ends}
@@ -32,19 +32,19 @@ use Rattle.records.specs.Records.{recordsFit, readTest, recordOf, readAt
 
 -- sizes that fit
 pub record Fits (n width len : ℕ) : Type 0 where
-  pub pool : n ≤ 4096
+  pub pool : n ≤ 16777216
   pub wide : width ≤ 256
   pub some : 0 < width
   pub long : len ≡ width * n
 
 pub fits : (n width len : ℕ) → recordsFit n width len ≡ true → Fits n width len
-unfolding recordsFit poolFits poolLimit
+unfolding recordsFit
 fits n width len h =
-    let a = both (leb n 4096 && leb width 256) (ltb 0 width && eqb len (width * n)) h in
-    let b = both (leb n 4096) (leb width 256) (a .0) in
+    let a = both (poolFits n && leb width 256) (ltb 0 width && eqb len (width * n)) h in
+    let b = both (poolFits n) (leb width 256) (a .0) in
     let d = both (ltb 0 width) (eqb len (width * n)) (a .1) in
     record {
-      pool = leb-true n 4096 (b .0);
+      pool = fits-small n (b .0);
       wide = leb-true width 256 (b .1);
       some = ltb-true 0 width (d .0);
       long = eqb-true len (width * n) (d .1);
@@ -71,8 +71,8 @@ readable ws e c len width h =
     }
 
 -- the product of sizes that fit is small
-pub small : (n width i : ℕ) → n ≤ 4096 → width ≤ 256 → i ≤ n → i * width ≤ 1048576
-small n width i p q r = let k = mul-le-mul {n₁ = i} {m₁ = width} {n₂ = 4096} {m₂ = 256} (omega arith) q in omega arith
+pub small : (n width i : ℕ) → n ≤ 16777216 → width ≤ 256 → i ≤ n → i * width ≤ 4294967296
+small n width i p q r = let k = mul-le-mul {n₁ = i} {m₁ = width} {n₂ = 16777216} {m₂ = 256} (omega arith) q in omega arith
 
 -- the record of a node is within the records
 pub within : (n width len i : ℕ) → len ≡ width * n → i < n → i * width + width ≤ len
@@ -84,13 +84,12 @@ within n width len i e h =
 
 -- so that the product fits a word
 pub small-pool : (n width : ℕ) → poolFits n ≡ true → width ≤ 256 → width * n < 2 ^ 64
-unfolding poolFits poolLimit
-small-pool n width f w = let p = leb-true n 4096 f in let k = small n width n p w (omega arith) in let e = mul-comm n width in omega arith
+small-pool n width f w = let p = fits-small n f in let k = small n width n p w (omega arith) in let e = mul-comm n width in omega arith
 
 -- where the record of an accepted read is
 pub record Located (ws : List ℕ) (c : Cursor) (len width : ℕ) (i : Node) : Type 0 where
   pub node : i .0 ≡ nodeOf (c .current .0)
-  pub small : i .0 * width ≤ 1048576
+  pub small : i .0 * width ≤ 4294967296
   pub wide : width ≤ 256
   pub inside : i .0 * width + width ≤ len
 

@@ -3,7 +3,7 @@ use mathlib.Core.Path.{sym, _∙_}
 use native.Mathlib.Omega.{arith}
 use borrow.Author.Tests.{not-true, not-false, lt-leb, le-leb, leb-true}
 use borrow.Author.Needs.{needs}
-use Rattle.words.specs.Names.{poolLimit, poolFits}
+use Rattle.words.specs.Names.{poolFits}
 use Rattle.records.specs.Records.{recordsFit}
 use Rattle.records.proofs.Laws.Read.{small-pool}
 use Rattle.records.proofs.records_fit.Statement.{statement}

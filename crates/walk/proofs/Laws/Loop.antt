@@ -12,10 +12,10 @@ use borrow.Author.Tests.{eq-eqb, ne-eqb, leb-true}
 use Rattle.words.specs.declared.names.Node.{Node}
 use Rattle.words.specs.declared.names.Name.{Name}
 use Rattle.words.specs.declared.names.Found.the-variants.{At, Nothing}
-use Rattle.words.specs.Names.{nodeOf, isName, decoding, poolFits, poolLimit}
+use Rattle.words.specs.Names.{nodeOf, isName, decoding, poolFits}
 use Rattle.words.specs.Pool.{wordAt}
 use Rattle.words.specs.LinkOps.{nextOf}
-use Rattle.words.proofs.Laws.Names.{named-node}
+use Rattle.words.proofs.Laws.Names.{fits-small, named-node}
 use Rattle.walk.specs.declared.step.Stood.{Stood}
 use Rattle.walk.specs.Marks.{isMarked, paint, Marking, marking}
 use Rattle.walk.specs.Walk.{isFree, walkFrom, atTail}
@@ -27,8 +27,7 @@ use Rattle.walk.proofs.Laws.Step.{free-is, free-none, step-dry, step-fa
 
 -- a count of nodes is a 32-bit number, and so is the next one
 pub fits-word : (n : ℕ) → poolFits n ≡ true → n < 2147483648
-unfolding poolFits poolLimit
-fits-word n h = let k = leb-true n poolLimit h in omega arith
+fits-word n h = let k = fits-small n h in omega arith
 
 -- what decoding tells of a word
 pub decoded : (n : ℕ) (w : Name) (i : Node) → decoding n w ≡ At i → (isName n (w .0) ≡ true) × (i .0 ≡ nodeOf (w .0))

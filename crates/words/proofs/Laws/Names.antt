@@ -10,8 +10,16 @@ use Rattle.words.specs.declared.names.Node.{Node}
 use Rattle.words.specs.declared.names.Name.{Name}
 use Rattle.words.specs.declared.names.Found.{Found}
 use Rattle.words.specs.declared.names.Found.the-variants.{At, Nothing}
-use Rattle.words.specs.Names.{name, nodeOf, isName, decoding}
+use Rattle.words.specs.Names.{name, nodeOf, isName, poolLimit, poolFits, decoding}
 use Rattle.words.proofs.Laws.Cases.{both}
+
+-- ---- the limit
+
+-- how small a pool within the limit is: what the numbers of nodes, and their names, need to fit a word. No other law looks
+-- at the limit.
+pub fits-small : (n : ℕ) → poolFits n ≡ true → n ≤ 16777216
+unfolding poolFits poolLimit
+fits-small n h = let k = leb-true n poolLimit h in omega arith
 
 -- ---- a name
 
