@@ -31,7 +31,7 @@ fn reads(words: &[u32], ends: Ends) {
     show::edited(b"peek_next", first.peek_next(words, ends));
     show::edited(
         b"place of 4095 after 4094",
-        list::place::cursor_from_ptr_and_prev(words, ends, Node(4095), Found::At(Node(4094))),
+        place::cursor_from_ptr_and_prev(words, ends, Node(4095), Found::At(Node(4094))),
     );
     show::listed(b"reverse", list::list::reverse(words, ends));
     show::listed(b"fast_clear", list::list::fast_clear(words, ends));

@@ -8,12 +8,12 @@ use words::names::Node;
 fn both(words: &[u32], ends: Ends, node: Node, neighbour: Found) {
     show::edited(
         b"  by_prev",
-        list::place::cursor_from_ptr_and_prev(words, ends, node, neighbour),
+        place::cursor_from_ptr_and_prev(words, ends, node, neighbour),
     );
     show::end_line();
     show::edited(
         b"  by_next",
-        list::place::cursor_from_ptr_and_next(words, ends, node, neighbour),
+        place::cursor_from_ptr_and_next(words, ends, node, neighbour),
     );
     show::end_line();
 }

@@ -2,6 +2,5 @@
 pub mod Pushes
 pub mod Pops
 pub mod Ends
-pub mod Places
 pub mod Few
 pub mod Refused

@@ -1,4 +1,3 @@
 -- What must be believed of the calls on a list by its ends.
 pub mod Lists
-pub mod Places
 pub mod Plain

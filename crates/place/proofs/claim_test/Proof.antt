@@ -1,9 +1,9 @@
 -- `claim_test` meets its contract. Assumes nothing.
 use borrow.Author.Tests.{not-true, not-false, le-ltb, lt-ltb}
 use borrow.Author.Needs.{needs}
-use Rattle.list.specs.Places.{claimTest}
-use Rattle.list.proofs.place.claim_test.Statement.{statement}
-use Rattle.list.proofs.place.claim_test.Tie as tie
+use Rattle.place.specs.Places.{claimTest}
+use Rattle.place.proofs.claim_test.Statement.{statement}
+use Rattle.place.proofs.claim_test.Tie as tie
 
 ends-test-requires : tie.Need-ends-test-requires
 ends-test-requires c κs = search needs

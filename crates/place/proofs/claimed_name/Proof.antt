@@ -1,9 +1,9 @@
 -- `claimed_name` meets its contract. Assumes nothing.
 use mathlib.Core.Path.{sym, ap, _∙_}
 use borrow.Author.Needs.{needs}
-use Rattle.list.specs.Places.{claimed}
-use Rattle.list.proofs.place.claimed_name.Statement.{statement}
-use Rattle.list.proofs.place.claimed_name.Tie as tie
+use Rattle.place.specs.Places.{claimed}
+use Rattle.place.proofs.claimed_name.Statement.{statement}
+use Rattle.place.proofs.claimed_name.Tie as tie
 
 enum-known-neighbour : tie.Need-enum-known-neighbour
 enum-known-neighbour c = search needs

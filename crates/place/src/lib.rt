@@ -9,7 +9,7 @@ use words::names::Found;
 use words::names::Name;
 use words::names::Node;
 ghost use mathlib.Core.Path.{_≡_};
-ghost use Rattle.list.specs.Places.{claimed, claimTest, placed, placeByPrev, placeByNext};
+ghost use Rattle.place.specs.Places.{claimed, claimTest, placed, placeByPrev, placeByNext};
 
 // The name of a claimed neighbour, null for none.
 fn claimed_name(neighbour: Found) -> Name
@@ -40,7 +40,7 @@ fn claim_test(words: &[u32], ends: Ends, node: Node, neighbour: Found) -> Answer
 
 // The neighbour is none, or a node of a pool of this many.
 fn known(len: usize, neighbour: Found) -> bool
-    ensures { λ r. ⌜ r ≡ Rattle.list.specs.Places.known len neighbour ⌝ }
+    ensures { λ r. ⌜ r ≡ Rattle.place.specs.Places.known len neighbour ⌝ }
 {
     match neighbour {
         Found::At(node) => (node.0 as usize) < len,

@@ -1,9 +1,9 @@
 -- `known` meets its contract. Assumes nothing.
 use mathlib.Core.Path.{sym, ap, _∙_}
 use borrow.Author.Needs.{needs}
-use Rattle.list.specs.Places.{known}
-use Rattle.list.proofs.place.known.Statement.{statement}
-use Rattle.list.proofs.place.known.Tie as tie
+use Rattle.place.specs.Places.{known}
+use Rattle.place.proofs.known.Statement.{statement}
+use Rattle.place.proofs.known.Tie as tie
 
 enum-known-neighbour : tie.Need-enum-known-neighbour
 enum-known-neighbour c = search needs

@@ -1,9 +1,9 @@
 -- `place` meets its contract. Assumes nothing.
 use borrow.Author.Tests.{not-true, not-false}
 use borrow.Author.Needs.{needs}
-use Rattle.list.specs.Places.{placed}
-use Rattle.list.proofs.place.place.Statement.{statement}
-use Rattle.list.proofs.place.place.Tie as tie
+use Rattle.place.specs.Places.{placed}
+use Rattle.place.proofs.place.Statement.{statement}
+use Rattle.place.proofs.place.Tie as tie
 
 stands-requires : tie.Need-stands-requires
 stands-requires c κs = search needs

@@ -1,8 +1,8 @@
--- `cursor_from_ptr_and_prev` meets its contract. Assumes nothing.
+-- `cursor_from_ptr_and_next` meets its contract. Assumes nothing.
 use borrow.Author.Needs.{needs}
-use Rattle.list.specs.Places.{placeByPrev}
-use Rattle.list.proofs.place.cursor_from_ptr_and_prev.Statement.{statement}
-use Rattle.list.proofs.place.cursor_from_ptr_and_prev.Tie as tie
+use Rattle.place.specs.Places.{placeByNext}
+use Rattle.place.proofs.cursor_from_ptr_and_next.Statement.{statement}
+use Rattle.place.proofs.cursor_from_ptr_and_next.Tie as tie
 
 claim-test-requires : tie.Need-claim-test-requires
 claim-test-requires c κs = search needs
@@ -14,7 +14,7 @@ null-requires : tie.Need-null-requires
 null-requires c κs = search needs
 
 returns : tie.Need-returns
-unfolding placeByPrev
+unfolding placeByNext
 returns c = rw (← (c .before .before .before .claim-test .ensures), ← (c .before .before .is-refused .ensures), c .before .if1 .taken, c .null .ensures)
 
 to-name-requires : tie.Need-to-name-requires
@@ -23,8 +23,8 @@ to-name-requires c κs = search needs
 claimed-name-requires : tie.Need-claimed-name-requires
 claimed-name-requires c κs = search needs
 
-next-requires : tie.Need-next-requires
-next-requires c κs = search needs
+prev-requires : tie.Need-prev-requires
+prev-requires c κs = search needs
 
 new-requires : tie.Need-new-requires
 new-requires c κs = search needs
@@ -33,11 +33,11 @@ place-requires : tie.Need-place-requires
 place-requires c κs = search needs
 
 returns-2 : tie.Need-returns-2
-unfolding placeByPrev
-returns-2 c = rw (← (c .before .before .before .before .before .before .before .claim-test .ensures), ← (c .before .before .before .before .before .before .is-refused .ensures), c .before .before .before .before .before .if1 .left, c .place .ensures, c .before .new .ensures, c .before .before .next .ensures, c .before .before .before .claimed-name .ensures, c .before .before .before .before .to-name .ensures)
+unfolding placeByNext
+returns-2 c = rw (← (c .before .before .before .before .before .before .before .claim-test .ensures), ← (c .before .before .before .before .before .before .is-refused .ensures), c .before .before .before .before .before .if1 .left, c .place .ensures, c .before .new .ensures, c .before .before .prev .ensures, c .before .before .before .claimed-name .ensures, c .before .before .before .before .to-name .ensures)
 
-pub cursor-from-ptr-and-prev-spec : {M : Type 1} → statement M
-cursor-from-ptr-and-prev-spec =
+pub cursor-from-ptr-and-next-spec : {M : Type 1} → statement M
+cursor-from-ptr-and-next-spec =
     tie.close
     (tie.spec
     claim-test-requires
@@ -46,7 +46,7 @@ cursor-from-ptr-and-prev-spec =
     returns
     to-name-requires
     claimed-name-requires
-    next-requires
+    prev-requires
     new-requires
     place-requires
     returns-2)

@@ -25,7 +25,7 @@ use Rattle.cursor.specs.Plain.{at, nodes, TrueAt, Sound}
 use Rattle.cursor.proofs.Laws.Sound.{sound-ends-test, sound-stands}
 use Rattle.cursor.proofs.Laws.Moves.{next-name}
 use Rattle.edit.proofs.Laws.Common.{naming-in}
-use Rattle.list.specs.Places.{claimed, known, claimTest, placed, placeByPrev, placeByNext}
+use Rattle.place.specs.Places.{claimed, known, claimTest, placed, placeByPrev, placeByNext}
 
 -- the cursor that a claim comes to
 abbrev pub byPrev : List ℕ → Node → Found → Cursor

@@ -1,0 +1,2 @@
+-- The laws of places by node and claimed neighbour: a real pair gives a true cursor.
+pub mod Places

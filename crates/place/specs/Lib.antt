@@ -1,0 +1,2 @@
+-- What must be believed of places by node and claimed neighbour.
+pub mod Places
