@@ -26,9 +26,9 @@ fn reads(words: &[u32], ends: Ends) {
     let first = Cursor::new(Name(2), Name(0), Name(4));
     show::edited(b"front", list::list::front(words, ends));
     show::edited(b"back", list::list::back(words, ends));
-    show::edited(b"move_next", first.move_next(words, ends));
-    show::edited(b"move_prev", first.move_prev(words, ends));
-    show::edited(b"peek_next", first.peek_next(words, ends));
+    show::edited(b"move_next", moves::move_next(first, words, ends));
+    show::edited(b"move_prev", moves::move_prev(first, words, ends));
+    show::edited(b"peek_next", moves::peek_next(first, words, ends));
     show::edited(
         b"place of 4095 after 4094",
         place::cursor_from_ptr_and_prev(words, ends, Node(4095), Found::At(Node(4094))),

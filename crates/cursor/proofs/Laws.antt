@@ -1,5 +1,4 @@
--- The laws of the cursor: its tests pass where it is true, its mirror, and its moves on a sequence.
+-- The laws of the cursor: its tests pass where it is true, and its mirror.
 pub mod Mirror
 pub mod Sound
-pub mod Moves
 pub mod Swap

@@ -1,4 +1,3 @@
--- What must be believed of the cursor: its tests, its moves, and the plain sequences and places that they stand for.
+-- What must be believed of the cursor: its tests, and the plain sequences and places that it stands for.
 pub mod Cursor
-pub mod Moves
 pub mod Plain

@@ -1,4 +1,2 @@
-// A cursor by value, the tests that its calls begin with, and its moves. Each call consumes the cursor and hands it back, with
-// the ends and the answer. A refused call changes nothing.
+// A cursor by value, what the calls at a cursor hand back, and the tests that they begin with.
 pub mod cursor;
-pub mod moves;

@@ -16,7 +16,7 @@ use Rattle.cursor.specs.declared.cursor.Cursor.{Cursor}
 use Rattle.cursor.specs.declared.cursor.Edited.{Edited}
 use Rattle.cursor.specs.declared.cursor.Parted.{Parted}
 use Rattle.cursor.specs.Cursor.{nullCursor}
-use Rattle.cursor.specs.Moves.{moveNext, movePrev}
+use Rattle.moves.specs.Moves.{moveNext, movePrev}
 use Rattle.insert.specs.Inserts.{insertAfter, insertBefore}
 use Rattle.remove.specs.Removes.{remove, replace}
 use Rattle.splice.specs.Splices.{spliceAfter, spliceBefore}

@@ -31,21 +31,21 @@ fn tests(words: &[u32], a: Args) {
 fn untested(words: &[u32], a: Args) {
     let c = a.cursor;
     show::text(b"  next_place");
-    show::place(c.next_place(words, a.ends));
+    show::place(moves::next_place(c, words, a.ends));
     show::text(b"\n  prev_place");
-    show::place(c.prev_place(words, a.ends));
+    show::place(moves::prev_place(c, words, a.ends));
     show::end_line();
 }
 
 fn moves(words: &[u32], a: Args) {
     let c = a.cursor;
-    show::edited(b"  move_next", c.move_next(words, a.ends));
+    show::edited(b"  move_next", moves::move_next(c, words, a.ends));
     show::end_line();
-    show::edited(b"  move_prev", c.move_prev(words, a.ends));
+    show::edited(b"  move_prev", moves::move_prev(c, words, a.ends));
     show::end_line();
-    show::edited(b"  peek_next", c.peek_next(words, a.ends));
+    show::edited(b"  peek_next", moves::peek_next(c, words, a.ends));
     show::end_line();
-    show::edited(b"  peek_prev", c.peek_prev(words, a.ends));
+    show::edited(b"  peek_prev", moves::peek_prev(c, words, a.ends));
     show::end_line();
 }
 

@@ -13,7 +13,7 @@ use Rattle.standing.specs.Ends.{emptyEnds, isEmpty, turned}
 use Rattle.standing.specs.Tests.{endsHold, endsTest}
 use Rattle.cursor.specs.declared.cursor.Edited.{Edited}
 use Rattle.cursor.specs.Cursor.{nullCursor, edited}
-use Rattle.cursor.specs.Moves.{movedNext, movedPrev}
+use Rattle.moves.specs.Moves.{movedNext, movedPrev}
 use Rattle.insert.specs.Inserts.{insertAfter, insertBefore}
 use Rattle.remove.specs.Removes.{removed}
 use Rattle.list.specs.declared.list.Listed.{Listed}

@@ -35,7 +35,7 @@ pub fn front(words: &[u32], ends: Ends) -> Edited
             cursor: null,
         };
     }
-    let first = null.next_place(words, ends);
+    let first = moves::next_place(null, words, ends);
     Edited {
         answer: Answer::Done,
         ends: ends,
@@ -56,7 +56,7 @@ pub fn back(words: &[u32], ends: Ends) -> Edited
             cursor: null,
         };
     }
-    let last = null.prev_place(words, ends);
+    let last = moves::prev_place(null, words, ends);
     Edited {
         answer: Answer::Done,
         ends: ends,
@@ -106,7 +106,7 @@ pub fn pop_front(words: &mut [u32], ends: Ends) -> Listed
             ends: ends,
         };
     }
-    let first = Cursor::null(ends).next_place(words, ends);
+    let first = moves::next_place(Cursor::null(ends), words, ends);
     let r = remove::unlink(words, ends, first);
     let answer = r.answer;
     let e = r.ends;
@@ -123,7 +123,7 @@ pub fn pop_back(words: &mut [u32], ends: Ends) -> Listed
             ends: ends,
         };
     }
-    let last = Cursor::null(ends).prev_place(words, ends);
+    let last = moves::prev_place(Cursor::null(ends), words, ends);
     let r = remove::unlink(words, ends, last);
     let answer = r.answer;
     let e = r.ends;

@@ -1,6 +1,6 @@
 -- Demand 2 is kept. Assumes nothing.
 use mathlib.Core.Path.{_≡_}
-use Rattle.cursor.proofs.Laws.Moves.{move-next-does, move-prev-does}
+use Rattle.moves.proofs.Laws.Moves.{move-next-does, move-prev-does}
 use Rattle.insert.proofs.Laws.Insert.{insert-after-does}
 use Rattle.insert.proofs.Laws.Mirror.{insert-before-does}
 use Rattle.remove.proofs.Laws.Remove.{remove-does}

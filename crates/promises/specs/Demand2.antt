@@ -17,7 +17,7 @@ use Rattle.standing.specs.declared.ends.Ends.{Ends}
 use Rattle.standing.specs.Ends.{emptyEnds, turned}
 use Rattle.cursor.specs.declared.cursor.Cursor.{Cursor}
 use Rattle.cursor.specs.Cursor.{edited}
-use Rattle.cursor.specs.Moves.{movedNext, movedPrev, moveNext, movePrev}
+use Rattle.moves.specs.Moves.{movedNext, movedPrev, moveNext, movePrev}
 use Rattle.cursor.specs.Plain.{Place, nodes, nextPlace, prevPlace, Sound}
 use Rattle.edit.specs.Plain.{linkedIn, Does}
 use Rattle.insert.specs.Inserts.{insertAfter, insertBefore}

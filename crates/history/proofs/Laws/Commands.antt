@@ -21,8 +21,8 @@ use Rattle.standing.specs.Ends.{emptyEnds, turned}
 use Rattle.standing.specs.Tests.{endsTest}
 use Rattle.cursor.specs.Cursor.{nullCursor}
 use Rattle.cursor.specs.Plain.{Place, at, atNull, nodes, nextPlace, prevPlace, Sound}
-use Rattle.cursor.specs.Moves.{moveNext, movePrev, movedNext, movedPrev}
-use Rattle.cursor.proofs.Laws.Moves.{move-next-does, move-prev-does}
+use Rattle.moves.specs.Moves.{moveNext, movePrev, movedNext, movedPrev}
+use Rattle.moves.proofs.Laws.Moves.{move-next-does, move-prev-does}
 use Rattle.cursor.proofs.Laws.Sound.{sound-ends-test}
 use Rattle.insert.specs.Inserts.{insertAfter, insertBefore}
 use Rattle.remove.specs.Removes.{remove, replace}

@@ -15,9 +15,9 @@ use Rattle.standing.specs.declared.ends.Ends.{Ends}
 use Rattle.standing.specs.Ends.{emptyEnds, isEmpty, turned}
 use Rattle.standing.proofs.Laws.Holds.{name-null, listing-ends-hold}
 use Rattle.cursor.specs.Cursor.{nullCursor, edited}
-use Rattle.cursor.specs.Moves.{movedNext, movedPrev}
+use Rattle.moves.specs.Moves.{movedNext, movedPrev}
 use Rattle.cursor.specs.Plain.{atNull, nextPlace, prevPlace, Sound}
-use Rattle.cursor.proofs.Laws.Moves.{next-sound, prev-sound}
+use Rattle.moves.proofs.Laws.Moves.{next-sound, prev-sound}
 use Rattle.cursor.proofs.Laws.Sound.{sound-ends-test}
 use Rattle.list.specs.Lists.{listed, taken, front, back, take, fastClear, reversed}
 use Rattle.list.proofs.Laws.Pushes.{sound-null}

@@ -9,7 +9,7 @@ use Rattle.words.proofs.Laws.Pool.{few-unless}
 use Rattle.standing.specs.declared.ends.Ends.{Ends}
 use Rattle.standing.specs.Answer.{isRefused}
 use Rattle.cursor.specs.Cursor.{nullCursor}
-use Rattle.cursor.specs.Moves.{movedNext, movedPrev}
+use Rattle.moves.specs.Moves.{movedNext, movedPrev}
 use Rattle.remove.specs.Removes.{removed}
 use Rattle.insert.proofs.Laws.Few.{insert-after-few, insert-before-few}
 use Rattle.remove.proofs.Laws.Few.{removed-few}

@@ -15,10 +15,10 @@ use Rattle.standing.specs.Ends.{isEmpty}
 use Rattle.standing.proofs.Laws.Holds.{name-null}
 use Rattle.cursor.specs.declared.cursor.Cursor.{Cursor}
 use Rattle.cursor.specs.Cursor.{nullCursor}
-use Rattle.cursor.specs.Moves.{movedNext, movedPrev}
+use Rattle.moves.specs.Moves.{movedNext, movedPrev}
 use Rattle.cursor.specs.Plain.{Place, at, atNull, nodes, mirror, nextPlace, prevPlace, Sound}
 use Rattle.cursor.proofs.Laws.Mirror.{mirror-nodes}
-use Rattle.cursor.proofs.Laws.Moves.{next-sound, prev-sound}
+use Rattle.moves.proofs.Laws.Moves.{next-sound, prev-sound}
 use Rattle.cursor.proofs.Laws.Sound.{sound-ends-test}
 use Rattle.remove.specs.Removes.{removed}
 use Rattle.remove.specs.Plain.{plainRemove}

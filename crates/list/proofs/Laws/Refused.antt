@@ -11,7 +11,7 @@ use Rattle.standing.proofs.Laws.Ladder.{not-both}
 use Rattle.cursor.specs.declared.cursor.Cursor.{Cursor}
 use Rattle.cursor.specs.declared.cursor.Edited.{Edited}
 use Rattle.cursor.specs.Cursor.{nullCursor}
-use Rattle.cursor.specs.Moves.{movedNext, movedPrev}
+use Rattle.moves.specs.Moves.{movedNext, movedPrev}
 use Rattle.insert.specs.Inserts.{insertAfter, insertBefore}
 use Rattle.remove.specs.Removes.{removed}
 use Rattle.edit.proofs.Laws.Refused.{Unchanged}

@@ -23,7 +23,7 @@ use Rattle.cursor.specs.declared.cursor.Cursor.{Cursor}
 use Rattle.cursor.specs.Cursor.{cursorOf, cursorStands, edited}
 use Rattle.cursor.specs.Plain.{at, nodes, TrueAt, Sound}
 use Rattle.cursor.proofs.Laws.Sound.{sound-ends-test, sound-stands}
-use Rattle.cursor.proofs.Laws.Moves.{next-name}
+use Rattle.moves.proofs.Laws.Moves.{next-name}
 use Rattle.edit.proofs.Laws.Common.{naming-in}
 use Rattle.place.specs.Places.{claimed, known, claimTest, placed, placeByPrev, placeByNext}
 

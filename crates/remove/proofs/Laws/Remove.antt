@@ -28,7 +28,7 @@ use Rattle.cursor.specs.declared.cursor.Cursor.{Cursor}
 use Rattle.cursor.specs.Cursor.{cursorOf, nullCursor, edited, someTest}
 use Rattle.cursor.specs.Plain.{Place, at, atNull, Sound}
 use Rattle.cursor.proofs.Laws.Sound.{sound-test}
-use Rattle.cursor.proofs.Laws.Moves.{next-name}
+use Rattle.moves.proofs.Laws.Moves.{next-name}
 use Rattle.remove.specs.Removes.{removed, remove}
 use Rattle.edit.specs.Plain.{Does, linkedIn}
 use Rattle.remove.specs.Plain.{placeWithout, plainRemove}

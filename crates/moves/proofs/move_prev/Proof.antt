@@ -1,8 +1,8 @@
--- `Cursor::move_prev` meets its contract. Assumes nothing.
+-- `move_prev` meets its contract. Assumes nothing.
 use borrow.Author.Needs.{needs}
-use Rattle.cursor.specs.Moves.{movePrev}
-use Rattle.cursor.proofs.cursor.Cursor.move_prev.Statement.{statement}
-use Rattle.cursor.proofs.cursor.Cursor.move_prev.Tie as tie
+use Rattle.moves.specs.Moves.{movePrev}
+use Rattle.moves.proofs.move_prev.Statement.{statement}
+use Rattle.moves.proofs.move_prev.Tie as tie
 
 stand-test-requires : tie.Need-stand-test-requires
 stand-test-requires c κs = search needs

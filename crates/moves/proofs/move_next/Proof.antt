@@ -1,8 +1,8 @@
--- `Cursor::move_next` meets its contract. Assumes nothing.
+-- `move_next` meets its contract. Assumes nothing.
 use borrow.Author.Needs.{needs}
-use Rattle.cursor.specs.Moves.{moveNext}
-use Rattle.cursor.proofs.cursor.Cursor.move_next.Statement.{statement}
-use Rattle.cursor.proofs.cursor.Cursor.move_next.Tie as tie
+use Rattle.moves.specs.Moves.{moveNext}
+use Rattle.moves.proofs.move_next.Statement.{statement}
+use Rattle.moves.proofs.move_next.Tie as tie
 
 stand-test-requires : tie.Need-stand-test-requires
 stand-test-requires c κs = search needs

@@ -1,8 +1,8 @@
--- `Cursor::next_place` meets its contract. Assumes nothing.
+-- `next_place` meets its contract. Assumes nothing.
 use borrow.Author.Needs.{needs}
-use Rattle.cursor.specs.Moves.{movedNext}
-use Rattle.cursor.proofs.cursor.Cursor.next_place.Statement.{statement}
-use Rattle.cursor.proofs.cursor.Cursor.next_place.Tie as tie
+use Rattle.moves.specs.Moves.{movedNext}
+use Rattle.moves.proofs.next_place.Statement.{statement}
+use Rattle.moves.proofs.next_place.Tie as tie
 
 is-null-requires : tie.Need-is-null-requires
 is-null-requires c κs = search needs

@@ -1,8 +1,8 @@
--- `Cursor::prev_place` meets its contract. Assumes nothing.
+-- `prev_place` meets its contract. Assumes nothing.
 use borrow.Author.Needs.{needs}
-use Rattle.cursor.specs.Moves.{movedPrev}
-use Rattle.cursor.proofs.cursor.Cursor.prev_place.Statement.{statement}
-use Rattle.cursor.proofs.cursor.Cursor.prev_place.Tie as tie
+use Rattle.moves.specs.Moves.{movedPrev}
+use Rattle.moves.proofs.prev_place.Statement.{statement}
+use Rattle.moves.proofs.prev_place.Tie as tie
 
 is-null-requires : tie.Need-is-null-requires
 is-null-requires c κs = search needs

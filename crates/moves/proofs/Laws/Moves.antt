@@ -18,13 +18,13 @@ use Rattle.standing.specs.declared.answer.Answer.the-variants.{Done}
 use Rattle.standing.specs.declared.ends.Ends.{Ends}
 use Rattle.standing.specs.Ends.{turned}
 use Rattle.standing.proofs.Laws.Holds.{name-null}
 use Rattle.cursor.specs.declared.cursor.Cursor.{Cursor}
 use Rattle.cursor.specs.declared.cursor.Edited.{Edited}
 use Rattle.cursor.specs.Cursor.{cursorOf, nullCursor, turnedCursor, edited, standTest}
-use Rattle.cursor.specs.Moves.{movedNext, movedPrev, moveNext, movePrev}
+use Rattle.moves.specs.Moves.{movedNext, movedPrev, moveNext, movePrev}
 use Rattle.cursor.specs.Plain.{Place, at, atNull, nodes, mirror, nextPlace, prevPlace, TrueAt, Sound}
 use Rattle.cursor.proofs.Laws.Mirror.{sound-mirror}
 use Rattle.cursor.proofs.Laws.Sound.{sound-test}
 
 -- the name after a node of a listing, from the name before it
 pub next-name : (ws : List ℕ) (h t : ℕ) (L : List ℕ) (x : ℕ) (R : List ℕ) → Listing bitXor ws h t (L ++ x ∷ R)

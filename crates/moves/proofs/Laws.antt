@@ -1,0 +1,2 @@
+-- The laws of the moves, on a sequence.
+pub mod Moves

@@ -1,0 +1,2 @@
+-- What must be believed of the moves.
+pub mod Moves
