@@ -1,11 +1,14 @@
 // A run of the batch desk over bytes that come in pieces: a line may begin in one piece and end in a later one.
-use crate::step::step;
+use crate::step::named_list;
+use crate::step::obey;
+use crate::step::other_list;
 use desk::desk::Desk;
 use desk::desk::Reply;
+use desk::desk::Row;
 use lines::line::Line;
 ghost use mathlib.Core.Path.{_≡_};
 ghost use lib.ListN.{drop};
-ghost use Rattle.batch.specs.Run.{placing, placedAt, takeFrom, running, runOf, finishOf};
+ghost use Rattle.batch.specs.Run.{placing, placedAt, takeFrom, running, ran, runFrom, runOf, finishOf};
 
 // How far a run has come: the desk, the line that is not ended yet, and how many bytes of answers were written.
 pub struct Ran {
@@ -83,11 +86,12 @@ fn take_line(input: &[u8], at: usize, before: Line) -> Took
     take_bytes(input, at, before)
 }
 
-// Runs the desk over the input, from a line that may be begun. The answers go to the front of out, while there is room.
-pub fn run(mut desk: Desk, mut line: Line, input: &[u8], out: &mut [u8]) -> Ran
-    ensures { λ r. ⌜ running (now (out .exit)) r ≡ runOf desk line (now (input .entry)) (now (out .entry)) ⌝ }
+// Runs the desk over the input, from a line that may be begun, with answers from a place on, while there is room. Each line does
+// to the desk what `step` does, where it stands: handed over and back, it would be copied twice a line.
+fn run_at(mut desk: Desk, mut line: Line, input: &[u8], out: &mut [u8], at: usize) -> Ran
+    ensures { λ r. ⌜ running (now (out .exit)) r ≡ runFrom (running (now (out .entry)) (ran desk line at)) (now (input .entry)) ⌝ }
 {
-    let mut wrote = 0;
+    let mut wrote = at;
     let mut i = 0;
     while i < input.len() {
         let t = take_line(input, i, line);
@@ -100,15 +104,41 @@ pub fn run(mut desk: Desk, mut line: Line, input: &[u8], out: &mut [u8]) -> Ran
             };
         }
         i = t.next;
-        desk = step(desk, taken.parse());
         line = Line::new();
-        let reply = desk.reply;
-        wrote = put_reply(out, wrote, reply);
+        let p = taken.parse();
+        let l = named_list(p);
+        let m = other_list(p);
+        let e = desk.ends[l];
+        let c = desk.cursors[l];
+        let o = desk.ends[m];
+        let k = desk.cursors[m];
+        let all = desk.ends;
+        let named = Row { ends: e, cursor: c };
+        let other = Row { ends: o, cursor: k };
+        let r = obey(&mut desk.words, all, named, other, p);
+        let f = r.other.ends;
+        let h = r.other.cursor;
+        desk.ends[m] = f;
+        desk.cursors[m] = h;
+        let g = r.named.ends;
+        let j = r.named.cursor;
+        desk.ends[l] = g;
+        desk.cursors[l] = j;
+        let answer = r.reply;
+        desk.reply = answer;
+        wrote = put_reply(out, wrote, answer);
     }
     Ran { desk, line, wrote }
 }
 
-// At the end of the input: a line of one byte or more that is not ended is run and answered too.
+// Runs the desk over the input, from a line that may be begun. The answers go to the front of out, while there is room.
+pub fn run(desk: Desk, line: Line, input: &[u8], out: &mut [u8]) -> Ran
+    ensures { λ r. ⌜ running (now (out .exit)) r ≡ runOf desk line (now (input .entry)) (now (out .entry)) ⌝ }
+{
+    run_at(desk, line, input, out, 0)
+}
+
+// At the end of the input: a line of one byte or more that is not ended is ended, and so run and answered.
 pub fn finish(desk: Desk, line: Line, out: &mut [u8], at: usize) -> Ran
     ensures { λ r. ⌜ running (now (out .exit)) r ≡ finishOf desk line (now (out .entry)) at ⌝ }
 {
@@ -119,12 +149,6 @@ pub fn finish(desk: Desk, line: Line, out: &mut [u8], at: usize) -> Ran
             wrote: at,
         };
     }
-    let after = step(desk, line.parse());
-    let reply = after.reply;
-    let wrote = put_reply(out, at, reply);
-    Ran {
-        desk: after,
-        line: Line::new(),
-        wrote,
-    }
+    let feed = [10u8; 1];
+    run_at(desk, line, &feed, out, at)
 }

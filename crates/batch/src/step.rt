@@ -10,12 +10,20 @@ use lines::line::Parsed;
 use standing::answer::Refusal;
 use standing::ends::Ends;
 ghost use mathlib.Core.Path.{_≡_};
+ghost use lib.ListN.{length};
 ghost use Rattle.words.specs.Pool.{outcome};
 ghost use Rattle.audit.specs.Audit.{auditAll};
 ghost use Rattle.desk.specs.Reply.{replyToAudit};
 ghost use Rattle.desk.specs.Work.{clearing};
 ghost use Rattle.desk.specs.Step.{freshDesk, command};
-ghost use Rattle.batch.specs.Step.{unmarking, noMarks, stepped};
+ghost use Rattle.batch.specs.Step.{unmarking, noMarks, namedList, otherList, obeyedOf, stepped};
+
+// What a line leaves of the lists that it names, and its answer.
+pub struct Obeyed {
+    pub named: Row,
+    pub other: Row,
+    pub reply: Reply,
+}
 
 // Every node unlinked, every list empty, every cursor null.
 pub fn fresh() -> Desk
@@ -37,7 +45,7 @@ pub fn fresh() -> Desk
 
 // Clear, with marks of its own.
 fn clear_in(words: &mut [u32; 1024], named: Row, other: Row) -> Worked
-    ensures { λ w. ⌜ outcome (now (words .exit)) w ≡ unmarking (clearing (now (words .entry)) noMarks named other) ⌝ }
+    ensures { λ w. ⌜ (outcome (now (words .exit)) w ≡ unmarking (clearing (now (words .entry)) noMarks named other)) × (length (now (words .exit)) ≡ length (now (words .entry))) ⌝ }
 {
     let mut marks = [0u8; 1024];
     desk::work::clear(words, &mut marks, named, other)
@@ -45,7 +53,7 @@ fn clear_in(words: &mut [u32; 1024], named: Row, other: Row) -> Worked
 
 // A command on lists.
 fn work_in(words: &mut [u32; 1024], named: Row, other: Row, order: Order) -> Worked
-    ensures { λ w. ⌜ outcome (now (words .exit)) w ≡ unmarking (command (now (words .entry)) noMarks named other order) ⌝ }
+    ensures { λ w. ⌜ (outcome (now (words .exit)) w ≡ unmarking (command (now (words .entry)) noMarks named other order)) × (length (now (words .exit)) ≡ length (now (words .entry))) ⌝ }
 {
     if order.code == 13 {
         return clear_in(words, named, other);
@@ -82,45 +90,89 @@ fn audit_in(words: &[u32; 1024], ends: [Ends; 8]) -> Reply
     desk::reply::to_audit(a)
 }
 
-// What a line leaves of the desk, with its answer.
+// The place on the desk of the list that a line names, and of the other; 0 where it names none on the desk.
+pub fn named_list(line: Parsed) -> usize
+    ensures { λ r. ⌜ r ≡ namedList line ⌝ }
+{
+    match line {
+        Parsed::Right(order) => (order.list % 8) as usize,
+        Parsed::Malformed => 0,
+    }
+}
+
+pub fn other_list(line: Parsed) -> usize
+    ensures { λ r. ⌜ r ≡ otherList line ⌝ }
+{
+    match line {
+        Parsed::Right(order) => (order.other % 8) as usize,
+        Parsed::Malformed => 0,
+    }
+}
+
+// A line on the words of the desk, the ends of its lists, and the rows at those two places.
+pub fn obey(
+    words: &mut [u32; 1024],
+    ends: [Ends; 8],
+    named: Row,
+    other: Row,
+    line: Parsed,
+) -> Obeyed
+    ensures { λ r. ⌜ (outcome (now (words .exit)) r ≡ obeyedOf (now (words .entry)) ends named other line) × (length (now (words .exit)) ≡ length (now (words .entry))) ⌝ }
+{
+    let Parsed::Right(order) = line else {
+        return Obeyed {
+            named,
+            other,
+            reply: desk::reply::unread(Refusal::Malformed),
+        };
+    };
+    if order.code == 20 {
+        return Obeyed {
+            named,
+            other,
+            reply: audit_in(words, ends),
+        };
+    }
+    if (8 <= order.list) | (8 <= order.other) {
+        return Obeyed {
+            named,
+            other,
+            reply: desk::reply::unread(Refusal::NoSuchList),
+        };
+    }
+    let w = work_in(words, named, other, order);
+    let first = w.named;
+    let second = w.other;
+    Obeyed {
+        named: first,
+        other: second,
+        reply: desk::reply::to_work(1024, w),
+    }
+}
+
+// What a line leaves of the desk, with its answer. The other list is put back first: where both are one, the named one stands.
 pub fn step(mut desk: Desk, line: Parsed) -> Desk
     ensures { λ r. ⌜ r ≡ stepped desk line ⌝ }
 {
-    let Parsed::Right(order) = line else {
-        let answer = desk::reply::unread(Refusal::Malformed);
-        desk.reply = answer;
-        return desk;
-    };
-    if order.code == 20 {
-        let ends = desk.ends;
-        let answer = audit_in(&desk.words, ends);
-        desk.reply = answer;
-        return desk;
-    }
-    if (8 <= order.list) | (8 <= order.other) {
-        let answer = desk::reply::unread(Refusal::NoSuchList);
-        desk.reply = answer;
-        return desk;
-    }
-    let l = order.list as usize;
-    let m = order.other as usize;
+    let l = named_list(line);
+    let m = other_list(line);
     let e = desk.ends[l];
     let c = desk.cursors[l];
     let o = desk.ends[m];
     let k = desk.cursors[m];
+    let all = desk.ends;
     let named = Row { ends: e, cursor: c };
     let other = Row { ends: o, cursor: k };
-    let w = work_in(&mut desk.words, named, other, order);
-    // the other list first: where both are one list, the named one stands
-    let f = w.other.ends;
-    let h = w.other.cursor;
+    let r = obey(&mut desk.words, all, named, other, line);
+    let f = r.other.ends;
+    let h = r.other.cursor;
     desk.ends[m] = f;
     desk.cursors[m] = h;
-    let g = w.named.ends;
-    let j = w.named.cursor;
+    let g = r.named.ends;
+    let j = r.named.cursor;
     desk.ends[l] = g;
     desk.cursors[l] = j;
-    let answer = desk::reply::to_work(1024, w);
+    let answer = r.reply;
     desk.reply = answer;
     desk
 }

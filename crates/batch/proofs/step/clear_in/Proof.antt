@@ -13,7 +13,7 @@ clear-requires c κs = search needs
 
 returns : tie.Need-returns
 unfolding noMarks
-returns c = ap unmarking (c .before .clear .ensures)
+returns c = (ap unmarking (c .before .clear .ensures), search needs)
 
 pub clear-in-spec : {M : Type 1} → statement M
 clear-in-spec = tie.close (tie.spec slice-aggregate-clear clear-requires returns)
