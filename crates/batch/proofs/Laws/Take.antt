@@ -12,7 +12,7 @@ use borrow.Author.Tests.{eq-eqb, ne-eqb, eqb-true, eqb-false}
 use Rattle.lines.specs.declared.line.Line.{Line}
 use Rattle.lines.specs.Lines.{fed, fedAll}
 use Rattle.lines.proofs.Laws.Lines.{fed-feed}
-use Rattle.batch.specs.declared.run.Took.{Took}
+use Rattle.batch.specs.declared.pieces.Took.{Took}
 use Rattle.batch.specs.Run.{Running, running, ran, fedTo, ended, runFrom, took, takeFrom}
 
 -- ---- one byte
