@@ -26,7 +26,7 @@ use Rattle.desk.specs.declared.desk.Reply.{Reply}
 use Rattle.desk.specs.declared.desk.Row.{Row}
 use Rattle.desk.specs.declared.desk.Worked.{Worked}
 use Rattle.desk.specs.Reply.{replyTo, replyToAudit, replyUnread}
-use Rattle.desk.specs.Step.{rowAt, answering, deskFits, listsThere, command, putBack, audited, unread, step}
+use Rattle.desk.specs.Step.{rowAt, answering, deskFits, listsThere, command, putBack, audited, unread}
 use Rattle.batch.specs.Step.{unmarking, noMarks, stepped, obeyed, namedList, otherList, answeredBy, obeyedOf}
 use Rattle.batch.specs.declared.batch.Obeyed.{Obeyed}
 

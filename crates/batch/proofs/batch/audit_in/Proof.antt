@@ -7,7 +7,7 @@ use Rattle.desk.specs.Reply.{replyToAudit}
 use mathlib.Core.List.{List}
 use Rattle.standing.specs.declared.ends.Ends.{Ends}
 use Rattle.audit.specs.Audit.{auditAll}
-use mathlib.Core.Path.{_≡_, ap, _∙_}
+use mathlib.Core.Path.{ap, _∙_}
 use borrow.Author.Needs.{needs}
 use Rattle.batch.proofs.batch.audit_in.Statement.{statement}
 use Rattle.batch.proofs.batch.audit_in.Tie as tie
