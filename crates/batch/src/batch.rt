@@ -194,11 +194,8 @@ fn run_at(mut desk: Desk, mut line: Line, input: &[u8], out: &mut [u8], at: usiz
         let t = take_line(input, i, line);
         let taken = t.line;
         if !t.ended {
-            return Ran {
-                desk,
-                line: taken,
-                wrote,
-            };
+            line = taken;
+            return Ran { desk, line, wrote };
         }
         i = t.next;
         line = Line::new();
@@ -211,8 +208,7 @@ fn run_at(mut desk: Desk, mut line: Line, input: &[u8], out: &mut [u8], at: usiz
         let k = desk.cursors[m];
         let all = desk.ends;
         let named = Row { ends: e, cursor: c };
-        let other = Row { ends: o, cursor: k };
-        let r = obey(&mut desk.words, all, named, other, p);
+        let r = obey(&mut desk.words, all, named, Row { ends: o, cursor: k }, p);
         let f = r.other.ends;
         let h = r.other.cursor;
         desk.ends[m] = f;
