@@ -9,8 +9,8 @@ use Rattle.lines.specs.Lines.{fresh, fed, parsed}
 use Rattle.lines.specs.Answers.{answerLine}
 use Rattle.desk.specs.declared.desk.Desk.{Desk}
 use Rattle.desk.specs.declared.desk.Reply.{Reply}
-use Rattle.batch.specs.declared.run.Ran.{Ran}
-use Rattle.batch.specs.declared.run.Took.{Took}
+use Rattle.batch.specs.declared.batch.Ran.{Ran}
+use Rattle.batch.specs.declared.pieces.Took.{Took}
 use Rattle.batch.specs.Step.{stepped}
 
 -- The eleven bytes of an answer.

@@ -1,3 +1,3 @@
 // The batch desk: 1,024 words, eight lists and their cursors, by value. One step for a line; runs over bytes that come in pieces.
-pub mod run;
-pub mod step;
+pub mod batch;
+pub mod pieces;

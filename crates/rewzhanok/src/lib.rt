@@ -1,7 +1,7 @@
 // The entry for a host in C: command bytes in, answer bytes out, from a fresh desk at each call.
-use batch::run::finish;
-use batch::run::run;
-use batch::step::fresh;
+use batch::batch::finish;
+use batch::batch::fresh;
+use batch::batch::run;
 use lines::line::Line;
 ghost use mathlib.Core.Path.{_≡_};
 ghost use mathlib.Core.Bool.{cond};

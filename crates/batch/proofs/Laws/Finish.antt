@@ -1,14 +1,14 @@
 -- The end of a run: nothing is left, or a line that is not ended. Assumes nothing.
 use Prim.Native.Nat.{ℕ}
-use mathlib.Core.Path.{_≡_, refl, sym, ap, _∙_}
-use mathlib.Core.List.{List}
+use mathlib.Core.Path.{_≡_, ap}
+use mathlib.Core.List.{List, [], _∷_}
 use borrow.Author.Tests.{eq-eqb, ne-eqb}
 use Rattle.lines.specs.declared.line.Line.{Line}
 use Rattle.lines.specs.declared.line.Parsed.{Parsed}
 use Rattle.lines.specs.Lines.{fresh, parsed}
 use Rattle.desk.specs.declared.desk.Desk.{Desk}
 use Rattle.batch.specs.Step.{stepped}
-use Rattle.batch.specs.Run.{Placing, placing, placedAt, Running, running, ran, ended, finishOf}
+use Rattle.batch.specs.Run.{Placing, placing, placedAt, Running, running, ran, ended, runFrom, finishOf}
 
 -- a line that is run and answered, by the calls that do it
 pub ended-is : (s : Running) (l : Line) (out : List ℕ) (p : Parsed) (d : Desk) (w : ℕ) → p ≡ parsed (s .ran .line) → d ≡ stepped (s .ran .desk) p
@@ -22,7 +22,7 @@ pub rests : (d : Desk) (l : Line) (out : List ℕ) (at : ℕ) → l .count ≡ 0
 unfolding finishOf
 rests d l out at h = rw (eq-eqb (l .count) 0 h)
 
-pub answers : (d : Desk) (l : Line) (out : List ℕ) (at : ℕ) → (l .count ≡ 0 → ⊥) → (m : Line) (end : List ℕ) (p : Parsed) (e : Desk) (w : ℕ)
-    → p ≡ parsed l → e ≡ stepped d p → placing end w ≡ placedAt out at (e .reply) → m ≡ fresh → running end (ran e m w) ≡ finishOf d l out at
-unfolding finishOf
-answers d l out at h m end p e w hp he ho hm = rw (ne-eqb (l .count) 0 h) (ended-is (running out (ran d l at)) m end p e w hp he ho hm)
+-- a line that is ended by a line feed
+pub answers : (d : Desk) (l : Line) (out : List ℕ) (at : ℕ) → (l .count ≡ 0 → ⊥) → (x : Running) → x ≡ runFrom (running out (ran d l at)) (10 ∷ []) → x ≡ finishOf d l out at
+unfolding finishOf runFrom
+answers d l out at h x e = rw (ne-eqb (l .count) 0 h) e

@@ -1,14 +1,14 @@
 -- An answer that is written to a part of lent bytes stands at its place. Assumes nothing.
 use Prim.Native.Nat.{ℕ, _+_, _-_, _<_, _≤_}
-use mathlib.Core.Path.{_≡_, refl, sym, ap, _∙_}
-use mathlib.Core.List.{List, [], _∷_, _++_}
+use mathlib.Core.Path.{_≡_}
+use mathlib.Core.List.{List, _++_}
 use native.Mathlib.Omega.{arith}
 use lib.ListN.{length, take, drop, length-drop, drop-of-length-le}
 use lib.Seq.{drop-drop, length-take-le}
 use borrow.Author.Tests.{le-leb, lt-leb}
 use Rattle.lines.specs.Answers.{answerLine, putAnswer}
 use Rattle.desk.specs.declared.desk.Reply.{Reply}
-use Rattle.batch.specs.Run.{bytesOf, placing, placedAt}
+use Rattle.batch.specs.Run.{placing, placedAt}
 
 -- eleven bytes of room are filled
 filled : (part : List ℕ) (a f s : ℕ) → length part ≡ 11 → putAnswer part a f s ≡ answerLine a f s

@@ -8,11 +8,11 @@ use native.Mathlib.Omega.{arith}
 use lib.Dec.{eqb}
 use lib.ListN.{length, getD, take, drop, take-append-drop, length-drop, drop-of-length-le}
 use lib.Seq.{drop-cons, drop-drop, length-take-le}
-use borrow.Author.Tests.{eq-eqb, ne-eqb, eqb-true, eqb-false}
+use borrow.Author.Tests.{eq-eqb, ne-eqb}
 use Rattle.lines.specs.declared.line.Line.{Line}
 use Rattle.lines.specs.Lines.{fed, fedAll}
 use Rattle.lines.proofs.Laws.Lines.{fed-feed}
-use Rattle.batch.specs.declared.run.Took.{Took}
+use Rattle.batch.specs.declared.pieces.Took.{Took}
 use Rattle.batch.specs.Run.{Running, running, ran, fedTo, ended, runFrom, took, takeFrom}
 
 -- ---- one byte

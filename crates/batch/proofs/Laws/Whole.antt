@@ -1,14 +1,14 @@
 -- What `run` and `finish` write over a whole input: the answers to its lines in turn. Assumes nothing.
 use Prim.Native.Nat.{ℕ, suc, _+_, _*_, _%_, _≤_}
-use mathlib.Core.Path.{_≡_, refl, sym, ap, _∙_}
+use mathlib.Core.Path.{_≡_, refl, sym, _∙_}
 use mathlib.Core.Bool.{Bool, true, false, _&&_, cond}
 use mathlib.Core.List.{List, [], _∷_, _++_, map, append-assoc}
 use native.Mathlib.Nat.{add-zero}
 use native.Mathlib.Omega.{arith}
 use lib.Dec.{eqb, ltb}
-use lib.ListN.{length, take, drop, length-append, length-drop}
+use lib.ListN.{length, drop, length-append, length-drop}
 use lib.Seq.{take-append-seam, drop-append-add, drop-drop}
-use borrow.Author.Tests.{le-leb, eq-eqb, ne-eqb}
+use borrow.Author.Tests.{le-leb, ne-eqb}
 use Rattle.lines.specs.declared.line.Line.{Line}
 use Rattle.lines.specs.Lines.{digitOf, lineOf, fresh, fed, fedAll, parsed}
 use Rattle.lines.specs.Inputs.{linesFrom, linesOf}
@@ -18,7 +18,7 @@ use Rattle.desk.specs.declared.desk.Desk.{Desk}
 use Rattle.desk.specs.declared.desk.Reply.{Reply}
 use Rattle.history.specs.Runs.{answerAll}
 use Rattle.batch.specs.Step.{noMarks, stepped}
-use Rattle.batch.specs.Run.{bytesOf, placedAt, Running, running, ran, fedTo, ended, runFrom, runOf, finishOf, bytesOfAll, finished}
+use Rattle.batch.specs.Run.{bytesOf, placedAt, Running, running, ran, ended, runFrom, runOf, finishOf, bytesOfAll, finished}
 use Rattle.batch.proofs.Laws.Take.{run-feed, run-other}
 
 -- ---- a line that is begun has a digit, or is malformed

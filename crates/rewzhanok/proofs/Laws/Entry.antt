@@ -1,11 +1,10 @@
 -- What the entry writes are the history's answers. Assumes nothing.
 use Prim.Native.Nat.{ℕ, suc, _+_, _*_, _<_, _≤_}
 use mathlib.Core.Path.{_≡_, refl, sym, ap, _∙_}
-use mathlib.Core.Bool.{true, false, _&&_}
 use mathlib.Core.List.{List, [], _∷_, _++_, map}
 use native.Mathlib.Omega.{arith}
-use lib.Dec.{leb, lit≤}
-use lib.ListN.{length, drop, length-append, length-map, length-replicate}
+use lib.Dec.{lit≤}
+use lib.ListN.{length, drop, length-append, length-map}
 use borrow.Author.Tests.{le-leb, lt-leb}
 use Rattle.words.specs.Names.{poolLimit, poolFits}
 use Rattle.audit.specs.Audit.{directoryLimit}
@@ -20,11 +19,11 @@ use Rattle.desk.specs.Step.{freshDesk}
 use Rattle.history.specs.History.{History, start, tell}
 use Rattle.history.specs.Runs.{answerAll, tellAll}
 use Rattle.history.proofs.Laws.Runs.{answers-are}
-use Rattle.batch.specs.declared.run.Ran.{Ran}
+use Rattle.batch.specs.declared.batch.Ran.{Ran}
 use Rattle.batch.specs.Step.{noMarks}
 use Rattle.batch.specs.Run.{bytesOf, bytesOfAll, Running, running, runOf, finishOf, finished}
 use Rattle.batch.proofs.Laws.Whole.{whole-answered}
-use Rattle.rewzhanok.specs.Entry.{Entered, entered, mayRun, answersTo, entryOf}
+use Rattle.rewzhanok.specs.Entry.{entered, mayRun, answersTo, entryOf}
 
 -- ---- as many bytes as eleven a line
 

@@ -2,8 +2,8 @@
 use native.Mathlib.Omega.{arith}
 use Rattle.batch.proofs.Laws.Take.{at-whole}
 use borrow.Author.Needs.{needs}
-use Rattle.batch.proofs.run.take_line.Statement.{statement}
-use Rattle.batch.proofs.run.take_line.Tie as tie
+use Rattle.batch.proofs.pieces.take_line.Statement.{statement}
+use Rattle.batch.proofs.pieces.take_line.Tie as tie
 
 sub-if2 : tie.Need-sub-if2
 sub-if2 c = search needs

@@ -1,8 +1,8 @@
 -- `fresh` meets its contract. Assumes nothing.
 use Rattle.desk.specs.Step.{freshDesk}
 use borrow.Author.Needs.{needs}
-use Rattle.batch.proofs.step.fresh.Statement.{statement}
-use Rattle.batch.proofs.step.fresh.Tie as tie
+use Rattle.batch.proofs.batch.fresh.Statement.{statement}
+use Rattle.batch.proofs.batch.fresh.Tie as tie
 
 empty-requires : tie.Need-empty-requires
 empty-requires c κs = search needs

@@ -2,8 +2,8 @@
 use native.Mathlib.Omega.{arith}
 use Rattle.batch.proofs.Laws.Place.{no-room, placed}
 use borrow.Author.Needs.{needs}
-use Rattle.batch.proofs.run.put_reply.Statement.{statement}
-use Rattle.batch.proofs.run.put_reply.Tie as tie
+use Rattle.batch.proofs.pieces.put_reply.Statement.{statement}
+use Rattle.batch.proofs.pieces.put_reply.Tie as tie
 
 returns : tie.Need-returns
 returns c = no-room _ _ _ (omega arith)

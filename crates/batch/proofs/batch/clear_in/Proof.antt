@@ -2,8 +2,8 @@
 use Rattle.batch.specs.Step.{unmarking, noMarks}
 use mathlib.Core.Path.{ap}
 use borrow.Author.Needs.{needs}
-use Rattle.batch.proofs.step.clear_in.Statement.{statement}
-use Rattle.batch.proofs.step.clear_in.Tie as tie
+use Rattle.batch.proofs.batch.clear_in.Statement.{statement}
+use Rattle.batch.proofs.batch.clear_in.Tie as tie
 
 slice-aggregate-clear : tie.Need-slice-aggregate-clear
 slice-aggregate-clear c = search needs
@@ -13,7 +13,7 @@ clear-requires c κs = search needs
 
 returns : tie.Need-returns
 unfolding noMarks
-returns c = ap unmarking (c .before .clear .ensures)
+returns c = (ap unmarking (c .before .clear .ensures), search needs)
 
 pub clear-in-spec : {M : Type 1} → statement M
 clear-in-spec = tie.close (tie.spec slice-aggregate-clear clear-requires returns)

@@ -6,8 +6,8 @@ use lib.ListN.{length, drop}
 use Rattle.lines.specs.declared.line.Line.{Line}
 use Rattle.batch.specs.Run.{takeFrom}
 use Rattle.batch.proofs.Laws.Take.{at-end, at-feed, at-other}
-use Rattle.batch.proofs.run.take_bytes.Statement.{statement}
-use Rattle.batch.proofs.run.take_bytes.Tie as tie
+use Rattle.batch.proofs.pieces.take_bytes.Statement.{statement}
+use Rattle.batch.proofs.pieces.take_bytes.Tie as tie
 
 abbrev Inv-loop : tie.InvT-loop
 Inv-loop input at line₀ i₀ line i = takeFrom line i (drop i input) ≡ takeFrom line₀ at (drop at input)

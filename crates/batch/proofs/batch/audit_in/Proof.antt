@@ -7,10 +7,10 @@ use Rattle.desk.specs.Reply.{replyToAudit}
 use mathlib.Core.List.{List}
 use Rattle.standing.specs.declared.ends.Ends.{Ends}
 use Rattle.audit.specs.Audit.{auditAll}
-use mathlib.Core.Path.{_≡_, ap, _∙_}
+use mathlib.Core.Path.{ap, _∙_}
 use borrow.Author.Needs.{needs}
-use Rattle.batch.proofs.step.audit_in.Statement.{statement}
-use Rattle.batch.proofs.step.audit_in.Tie as tie
+use Rattle.batch.proofs.batch.audit_in.Statement.{statement}
+use Rattle.batch.proofs.batch.audit_in.Tie as tie
 
 element-copy-out-t10 : tie.Need-element-copy-out-t10
 element-copy-out-t10 c = search needs
