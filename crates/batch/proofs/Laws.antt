@@ -2,6 +2,5 @@
 pub mod Ends
 pub mod Step
 pub mod Take
-pub mod Place
 pub mod Finish
 pub mod Whole

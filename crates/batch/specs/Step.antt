@@ -17,7 +17,7 @@ use Rattle.desk.specs.declared.desk.Row.{Row}
 use Rattle.desk.specs.declared.desk.Worked.{Worked}
 use Rattle.desk.specs.Reply.{replyTo, replyToAudit, replyUnread}
 use Rattle.desk.specs.Step.{command, step}
-use Rattle.batch.specs.declared.batch.Obeyed.{Obeyed}
+use Rattle.batch.specs.declared.Obeyed.{Obeyed}
 
 -- What a command leaves, without the marks.
 abbrev pub unmarking : Outcome (Marking Worked) → Outcome Worked

@@ -1,3 +1,247 @@
-// The batch desk: 1,024 words, eight lists and their cursors, by value. One step for a line; runs over bytes that come in pieces.
-pub mod batch;
-pub mod pieces;
+// The batch desk: 1,024 words, eight lists and their cursors. It goes in and comes back by value, with its answer to the last line
+// in it. A run is over bytes that come in pieces: a line may begin in one piece and end in a later one.
+use audit::audit::audit;
+use cursor::cursor::Cursor;
+use desk::desk::Desk;
+use desk::desk::Reply;
+use desk::desk::Row;
+use desk::desk::Worked;
+use lines::line::Line;
+use lines::line::Order;
+use lines::line::Parsed;
+use pieces::put_reply;
+use pieces::take_line;
+use standing::answer::Refusal;
+use standing::ends::Ends;
+ghost use mathlib.Core.Path.{_≡_};
+ghost use lib.ListN.{length};
+ghost use Rattle.words.specs.Pool.{outcome};
+ghost use Rattle.audit.specs.Audit.{auditAll};
+ghost use Rattle.desk.specs.Reply.{replyToAudit};
+ghost use Rattle.desk.specs.Work.{clearing};
+ghost use Rattle.desk.specs.Step.{freshDesk, command};
+ghost use Rattle.batch.specs.Step.{unmarking, noMarks, namedList, otherList, obeyedOf, stepped};
+ghost use Rattle.batch.specs.Run.{running, ran, runFrom, runOf, finishOf};
+
+// What a line leaves of the lists that it names, and its answer.
+struct Obeyed {
+    named: Row,
+    other: Row,
+    reply: Reply,
+}
+
+// Every node unlinked, every list empty, every cursor null.
+pub fn fresh() -> Desk
+    ensures { λ r. ⌜ r ≡ freshDesk 1024 8 ⌝ }
+{
+    let none = Ends::empty();
+    let cursor = Cursor::null(none);
+    Desk {
+        words: [1u32; 1024],
+        ends: [none; 8],
+        cursors: [cursor; 8],
+        reply: Reply {
+            number: 0,
+            first: 0,
+            second: 0,
+        },
+    }
+}
+
+// Clear, with marks of its own.
+fn clear_in(words: &mut [u32; 1024], named: Row, other: Row) -> Worked
+    ensures { λ w. ⌜ (outcome (now (words .exit)) w ≡ unmarking (clearing (now (words .entry)) noMarks named other)) × (length (now (words .exit)) ≡ length (now (words .entry))) ⌝ }
+{
+    let mut marks = [0u8; 1024];
+    desk::work::clear(words, &mut marks, named, other)
+}
+
+// A command on lists.
+fn work_in(words: &mut [u32; 1024], named: Row, other: Row, order: Order) -> Worked
+    ensures { λ w. ⌜ (outcome (now (words .exit)) w ≡ unmarking (command (now (words .entry)) noMarks named other order)) × (length (now (words .exit)) ≡ length (now (words .entry))) ⌝ }
+{
+    if order.code == 13 {
+        return clear_in(words, named, other);
+    }
+    desk::work::work(words, named, other, order)
+}
+
+// The audit, with marks of its own, answered.
+fn audit_in(words: &[u32; 1024], ends: [Ends; 8]) -> Reply
+    ensures { λ r. ⌜ r ≡ replyToAudit (auditAll (now (words .entry)) ends noMarks .answer) ⌝ }
+{
+    let heads = [
+        ends[0].head.0,
+        ends[1].head.0,
+        ends[2].head.0,
+        ends[3].head.0,
+        ends[4].head.0,
+        ends[5].head.0,
+        ends[6].head.0,
+        ends[7].head.0,
+    ];
+    let tails = [
+        ends[0].tail.0,
+        ends[1].tail.0,
+        ends[2].tail.0,
+        ends[3].tail.0,
+        ends[4].tail.0,
+        ends[5].tail.0,
+        ends[6].tail.0,
+        ends[7].tail.0,
+    ];
+    let mut marks = [0u8; 1024];
+    let a = audit(words, &heads, &tails, &mut marks);
+    desk::reply::to_audit(a)
+}
+
+// The place on the desk of the list that a line names, and of the other; 0 where it names none on the desk.
+fn named_list(line: Parsed) -> usize
+    ensures { λ r. ⌜ r ≡ namedList line ⌝ }
+{
+    match line {
+        Parsed::Right(order) => (order.list % 8) as usize,
+        Parsed::Malformed => 0,
+    }
+}
+
+fn other_list(line: Parsed) -> usize
+    ensures { λ r. ⌜ r ≡ otherList line ⌝ }
+{
+    match line {
+        Parsed::Right(order) => (order.other % 8) as usize,
+        Parsed::Malformed => 0,
+    }
+}
+
+// A line on the words of the desk, the ends of its lists, and the rows at those two places.
+fn obey(words: &mut [u32; 1024], ends: [Ends; 8], named: Row, other: Row, line: Parsed) -> Obeyed
+    ensures { λ r. ⌜ (outcome (now (words .exit)) r ≡ obeyedOf (now (words .entry)) ends named other line) × (length (now (words .exit)) ≡ length (now (words .entry))) ⌝ }
+{
+    let Parsed::Right(order) = line else {
+        return Obeyed {
+            named,
+            other,
+            reply: desk::reply::unread(Refusal::Malformed),
+        };
+    };
+    if order.code == 20 {
+        return Obeyed {
+            named,
+            other,
+            reply: audit_in(words, ends),
+        };
+    }
+    if (8 <= order.list) | (8 <= order.other) {
+        return Obeyed {
+            named,
+            other,
+            reply: desk::reply::unread(Refusal::NoSuchList),
+        };
+    }
+    let w = work_in(words, named, other, order);
+    let first = w.named;
+    let second = w.other;
+    Obeyed {
+        named: first,
+        other: second,
+        reply: desk::reply::to_work(1024, w),
+    }
+}
+
+// What a line leaves of the desk, with its answer. The other list is put back first: where both are one, the named one stands.
+pub fn step(mut desk: Desk, line: Parsed) -> Desk
+    ensures { λ r. ⌜ r ≡ stepped desk line ⌝ }
+{
+    let l = named_list(line);
+    let m = other_list(line);
+    let e = desk.ends[l];
+    let c = desk.cursors[l];
+    let o = desk.ends[m];
+    let k = desk.cursors[m];
+    let all = desk.ends;
+    let named = Row { ends: e, cursor: c };
+    let other = Row { ends: o, cursor: k };
+    let r = obey(&mut desk.words, all, named, other, line);
+    let f = r.other.ends;
+    let h = r.other.cursor;
+    desk.ends[m] = f;
+    desk.cursors[m] = h;
+    let g = r.named.ends;
+    let j = r.named.cursor;
+    desk.ends[l] = g;
+    desk.cursors[l] = j;
+    let answer = r.reply;
+    desk.reply = answer;
+    desk
+}
+
+// How far a run has come: the desk, the line that is not ended yet, and how many bytes of answers were written.
+pub struct Ran {
+    pub desk: Desk,
+    pub line: Line,
+    pub wrote: usize,
+}
+
+// Runs the desk over the input, from a line that may be begun, with answers from a place on, while there is room. Each line does
+// to the desk what `step` does, where it stands: handed over and back, it would be copied twice a line.
+fn run_at(mut desk: Desk, mut line: Line, input: &[u8], out: &mut [u8], at: usize) -> Ran
+    ensures { λ r. ⌜ running (now (out .exit)) r ≡ runFrom (running (now (out .entry)) (ran desk line at)) (now (input .entry)) ⌝ }
+{
+    let mut wrote = at;
+    let mut i = 0;
+    while i < input.len() {
+        let t = take_line(input, i, line);
+        let taken = t.line;
+        if !t.ended {
+            line = taken;
+            return Ran { desk, line, wrote };
+        }
+        i = t.next;
+        line = Line::new();
+        let p = taken.parse();
+        let l = named_list(p);
+        let m = other_list(p);
+        let e = desk.ends[l];
+        let c = desk.cursors[l];
+        let o = desk.ends[m];
+        let k = desk.cursors[m];
+        let all = desk.ends;
+        let named = Row { ends: e, cursor: c };
+        let r = obey(&mut desk.words, all, named, Row { ends: o, cursor: k }, p);
+        let f = r.other.ends;
+        let h = r.other.cursor;
+        desk.ends[m] = f;
+        desk.cursors[m] = h;
+        let g = r.named.ends;
+        let j = r.named.cursor;
+        desk.ends[l] = g;
+        desk.cursors[l] = j;
+        let answer = r.reply;
+        desk.reply = answer;
+        wrote = put_reply(out, wrote, answer);
+    }
+    Ran { desk, line, wrote }
+}
+
+// Runs the desk over the input, from a line that may be begun. The answers go to the front of out, while there is room.
+pub fn run(desk: Desk, line: Line, input: &[u8], out: &mut [u8]) -> Ran
+    ensures { λ r. ⌜ running (now (out .exit)) r ≡ runOf desk line (now (input .entry)) (now (out .entry)) ⌝ }
+{
+    run_at(desk, line, input, out, 0)
+}
+
+// At the end of the input: a line of one byte or more that is not ended is ended, and so run and answered.
+pub fn finish(desk: Desk, line: Line, out: &mut [u8], at: usize) -> Ran
+    ensures { λ r. ⌜ running (now (out .exit)) r ≡ finishOf desk line (now (out .entry)) at ⌝ }
+{
+    if line.count == 0 {
+        return Ran {
+            desk,
+            line,
+            wrote: at,
+        };
+    }
+    let feed = [10u8; 1];
+    run_at(desk, line, &feed, out, at)
+}

@@ -1,6 +1,6 @@
 // The desk as a program: command lines from standard input, of any length, to answers on standard output. What a read brings is
 // run and its answers are written before the next read. A desk, a block of input and a block of answers are all that it keeps.
-use batch::batch::Ran;
+use batch::Ran;
 use desk::desk::Desk;
 use libc::STDIN_FILENO;
 use libc::STDOUT_FILENO;
@@ -29,11 +29,11 @@ fn send_in(out: &[u8; ROOM], wrote: usize) -> bool {
 }
 
 fn run_in(desk: Desk, line: Line, input: &[u8], out: &mut [u8; ROOM]) -> Ran {
-    batch::batch::run(desk, line, input, out)
+    batch::run(desk, line, input, out)
 }
 
 fn finish_in(desk: Desk, line: Line, out: &mut [u8; ROOM]) -> Ran {
-    batch::batch::finish(desk, line, out, 0)
+    batch::finish(desk, line, out, 0)
 }
 
 // One read and its answers; at the end of the input, the answer to a line that is not ended.
@@ -65,7 +65,7 @@ fn turn(desk: Desk, line: Line, out: &mut [u8; ROOM]) -> Next {
 
 fn main() {
     let mut out = [0u8; ROOM];
-    let mut desk = batch::batch::fresh();
+    let mut desk = batch::fresh();
     let mut line = Line::new();
     let mut more = true;
     let mut turns = u64::MAX;

@@ -1,7 +1,7 @@
 // The entry for a host in C: command bytes in, answer bytes out, from a fresh desk at each call.
-use batch::batch::finish;
-use batch::batch::fresh;
-use batch::batch::run;
+use batch::finish;
+use batch::fresh;
+use batch::run;
 use lines::line::Line;
 ghost use mathlib.Core.Path.{_≡_};
 ghost use mathlib.Core.Bool.{cond};

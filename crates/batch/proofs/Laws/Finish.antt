@@ -8,7 +8,8 @@ use Rattle.lines.specs.declared.line.Parsed.{Parsed}
 use Rattle.lines.specs.Lines.{fresh, parsed}
 use Rattle.desk.specs.declared.desk.Desk.{Desk}
 use Rattle.batch.specs.Step.{stepped}
-use Rattle.batch.specs.Run.{Placing, placing, placedAt, Running, running, ran, ended, runFrom, finishOf}
+use Rattle.pieces.specs.Pieces.{Placing, placing, placedAt}
+use Rattle.batch.specs.Run.{Running, running, ran, ended, runFrom, finishOf}
 
 -- a line that is run and answered, by the calls that do it
 pub ended-is : (s : Running) (l : Line) (out : List ℕ) (p : Parsed) (d : Desk) (w : ℕ) → p ≡ parsed (s .ran .line) → d ≡ stepped (s .ran .desk) p

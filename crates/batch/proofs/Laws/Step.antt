@@ -28,7 +28,7 @@ use Rattle.desk.specs.declared.desk.Worked.{Worked}
 use Rattle.desk.specs.Reply.{replyTo, replyToAudit, replyUnread}
 use Rattle.desk.specs.Step.{rowAt, answering, deskFits, listsThere, command, putBack, audited, unread}
 use Rattle.batch.specs.Step.{unmarking, noMarks, stepped, obeyed, namedList, otherList, answeredBy, obeyedOf}
-use Rattle.batch.specs.declared.batch.Obeyed.{Obeyed}
+use Rattle.batch.specs.declared.Obeyed.{Obeyed}
 
 -- a test that a list is out of range, and the same test as the definition has it
 pub beyond : (l m : ℕ) → leb 8 l || leb 8 m ≡ true → ltb l 8 && ltb m 8 ≡ false

@@ -18,7 +18,8 @@ use Rattle.desk.specs.declared.desk.Desk.{Desk}
 use Rattle.desk.specs.declared.desk.Reply.{Reply}
 use Rattle.history.specs.Runs.{answerAll}
 use Rattle.batch.specs.Step.{noMarks, stepped}
-use Rattle.batch.specs.Run.{bytesOf, placedAt, Running, running, ran, ended, runFrom, runOf, finishOf, bytesOfAll, finished}
+use Rattle.pieces.specs.Pieces.{bytesOf, placedAt}
+use Rattle.batch.specs.Run.{Running, running, ran, ended, runFrom, runOf, finishOf, bytesOfAll, finished}
 use Rattle.batch.proofs.Laws.Take.{run-feed, run-other}
 
 -- ---- a line that is begun has a digit, or is malformed

@@ -21,7 +21,8 @@ use Rattle.history.specs.Runs.{answerAll, tellAll}
 use Rattle.history.proofs.Laws.Runs.{answers-are}
 use Rattle.batch.specs.declared.batch.Ran.{Ran}
 use Rattle.batch.specs.Step.{noMarks}
-use Rattle.batch.specs.Run.{bytesOf, bytesOfAll, Running, running, runOf, finishOf, finished}
+use Rattle.pieces.specs.Pieces.{bytesOf}
+use Rattle.batch.specs.Run.{bytesOfAll, Running, running, runOf, finishOf, finished}
 use Rattle.batch.proofs.Laws.Whole.{whole-answered}
 use Rattle.rewzhanok.specs.Entry.{entered, mayRun, answersTo, entryOf}
 

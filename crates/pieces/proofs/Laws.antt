@@ -1,0 +1,3 @@
+-- The laws of pieces of an input and of its answers.
+pub mod Take
+pub mod Place
