@@ -92,7 +92,7 @@ fn audit_in(words: &[u32; 1024], ends: [Ends; 8]) -> Reply
     ];
     let mut marks = [0u8; 1024];
     let a = audit(words, &heads, &tails, &mut marks);
-    desk::reply::to_audit(a)
+    replies::to_audit(a)
 }
 
 // The place on the desk of the list that a line names, and of the other; 0 where it names none on the desk.
@@ -122,7 +122,7 @@ fn obey(words: &mut [u32; 1024], ends: [Ends; 8], named: Row, other: Row, line: 
         return Obeyed {
             named,
             other,
-            reply: desk::reply::unread(Refusal::Malformed),
+            reply: replies::unread(Refusal::Malformed),
         };
     };
     if order.code == 20 {
@@ -136,7 +136,7 @@ fn obey(words: &mut [u32; 1024], ends: [Ends; 8], named: Row, other: Row, line: 
         return Obeyed {
             named,
             other,
-            reply: desk::reply::unread(Refusal::NoSuchList),
+            reply: replies::unread(Refusal::NoSuchList),
         };
     }
     let w = work_in(words, named, other, order);
@@ -145,7 +145,7 @@ fn obey(words: &mut [u32; 1024], ends: [Ends; 8], named: Row, other: Row, line: 
     Obeyed {
         named: first,
         other: second,
-        reply: desk::reply::to_work(1024, w),
+        reply: replies::to_work(1024, w),
     }
 }
 

@@ -19,7 +19,7 @@ use Rattle.desk.specs.Step.{freshDesk}
 use Rattle.history.specs.History.{History, start, tell}
 use Rattle.history.specs.Runs.{answerAll, tellAll}
 use Rattle.history.proofs.Laws.Runs.{answers-are}
-use Rattle.batch.specs.declared.batch.Ran.{Ran}
+use Rattle.batch.specs.declared.Ran.{Ran}
 use Rattle.batch.specs.Step.{noMarks}
 use Rattle.pieces.specs.Pieces.{bytesOf}
 use Rattle.batch.specs.Run.{bytesOfAll, Running, running, runOf, finishOf, finished}

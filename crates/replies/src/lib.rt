@@ -1,15 +1,15 @@
 // The answer to a line, from what its command came to.
-use crate::desk::Reply;
-use crate::desk::Worked;
 use audit::audit::Audited;
+use desk::desk::Reply;
+use desk::desk::Worked;
 use standing::answer::Refusal;
 use words::names::Found;
 ghost use mathlib.Core.Path.{_≡_};
 ghost use Rattle.desk.specs.Reply.{shown, replyTo, replyToAudit, replyUnread};
 
 // The field for a node, ffff for none.
 fn shown(found: Found) -> u32
     ensures { λ r. ⌜ r ≡ Rattle.desk.specs.Reply.shown found ⌝ }
 {
     match found {
         Found::At(node) => node.0,

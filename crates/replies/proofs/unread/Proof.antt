@@ -1,8 +1,8 @@
 -- `unread` meets its contract. Assumes nothing.
 use borrow.Author.Needs.{needs}
 use Rattle.desk.specs.Reply.{replyUnread}
-use Rattle.desk.proofs.reply.unread.Statement.{statement}
-use Rattle.desk.proofs.reply.unread.Tie as tie
+use Rattle.replies.proofs.unread.Statement.{statement}
+use Rattle.replies.proofs.unread.Tie as tie
 
 number-requires : tie.Need-number-requires
 number-requires c κs = search needs

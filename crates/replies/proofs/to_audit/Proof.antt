@@ -1,8 +1,8 @@
 -- `to_audit` meets its contract. Assumes nothing.
 use borrow.Author.Needs.{needs}
 use Rattle.desk.specs.Reply.{replyToAudit}
-use Rattle.desk.proofs.reply.to_audit.Statement.{statement}
-use Rattle.desk.proofs.reply.to_audit.Tie as tie
+use Rattle.replies.proofs.to_audit.Statement.{statement}
+use Rattle.replies.proofs.to_audit.Tie as tie
 
 is-refused-requires : tie.Need-is-refused-requires
 is-refused-requires c κs = search needs

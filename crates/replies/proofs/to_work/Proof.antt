@@ -1,8 +1,8 @@
 -- `to_work` meets its contract. Assumes nothing.
 use borrow.Author.Needs.{needs}
 use Rattle.desk.specs.Reply.{replyTo}
-use Rattle.desk.proofs.reply.to_work.Statement.{statement}
-use Rattle.desk.proofs.reply.to_work.Tie as tie
+use Rattle.replies.proofs.to_work.Statement.{statement}
+use Rattle.replies.proofs.to_work.Tie as tie
 
 node-requires : tie.Need-node-requires
 node-requires c κs = search needs
