@@ -8,6 +8,9 @@ ROOT = HOST.parent
 OUT = ROOT / "target" / "host"
 DESK = ROOT / "target" / "bin" / "desk_main"
 LIBRARY = ROOT / "target" / "staticlib" / "librewzhanok.a"
+# A sample of lines, and what the Rust crate answers to them: host/sample makes both.
+KEPT_LINES = ROOT / "crates" / "replay" / "stdin"
+KEPT_ANSWERS = ROOT / "crates" / "replay" / "stdout"
 # The source of the Rust crate that the lists are a port of. It is no part of this project.
 CRATE = ROOT.parent / "shared" / "docs" / "src" / "src"
 
