@@ -4,3 +4,4 @@ pub mod Step
 pub mod Take
 pub mod Finish
 pub mod Whole
+pub mod Unique

@@ -1,3 +1,4 @@
 -- The laws of pieces of an input and of its answers.
 pub mod Take
 pub mod Place
+pub mod Unique

@@ -1,3 +1,4 @@
 -- The laws of the C entry.
 pub mod Count
 pub mod Entry
+pub mod Unique
