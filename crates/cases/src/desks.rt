@@ -1,5 +1,5 @@
 // Lent desks of 4,096 nodes and 64 lists, and of one more, with a mark for each node and with one short. All nodes are free
-// and all lists empty. Node 4095 is pushed on list 63, then a free node on list 64, node 4096 on list 63, and all is audited.
+// and all lists empty. Node 4095 is pushed on list 63, or on list 64, and then all is audited.
 use crate::show;
 
 // A line, the number that it is answered by, and the two fields.
@@ -21,22 +21,7 @@ fn obey(
     show::text(b"\n");
 }
 
-// Two lines, one after the other.
-fn obey_two(
-    words: &mut [u32],
-    heads: &mut [u32],
-    tails: &mut [u32],
-    currents: &mut [u32],
-    prevs: &mut [u32],
-    nexts: &mut [u32],
-    marks: &mut [u8],
-    first: &[u8],
-    second: &[u8],
-) {
-    obey(words, heads, tails, currents, prevs, nexts, marks, first);
-    obey(words, heads, tails, currents, prevs, nexts, marks, second);
-}
-
+// The line, and an audit.
 fn lines(
     words: &mut [u32],
     heads: &mut [u32],
@@ -45,8 +30,10 @@ fn lines(
     prevs: &mut [u32],
     nexts: &mut [u32],
     marks: &mut [u8],
+    line: &[u8],
 ) {
-    obey_two(
+    obey(words, heads, tails, currents, prevs, nexts, marks, line);
+    obey(
         words,
         heads,
         tails,
@@ -54,55 +41,11 @@ fn lines(
         prevs,
         nexts,
         marks,
-        b"113f000fff",
-        b"1140000000",
-    );
-    obey_two(
-        words,
-        heads,
-        tails,
-        currents,
-        prevs,
-        nexts,
-        marks,
-        b"113f001000",
         b"1400000000",
     );
 }
 
-// The lines on the first so many lists.
-fn of_lists(
-    words: &mut [u32],
-    heads: &mut [u32],
-    tails: &mut [u32],
-    currents: &mut [u32],
-    prevs: &mut [u32],
-    nexts: &mut [u32],
-    marks: &mut [u8],
-    k: usize,
-) {
-    if k <= heads.len() {
-        if k <= tails.len() {
-            if k <= currents.len() {
-                if k <= prevs.len() {
-                    if k <= nexts.len() {
-                        lines(
-                            words,
-                            &mut heads[0..k],
-                            &mut tails[0..k],
-                            &mut currents[0..k],
-                            &mut prevs[0..k],
-                            &mut nexts[0..k],
-                            marks,
-                        );
-                    }
-                }
-            }
-        }
-    }
-}
-
-// The lines on the first so many nodes, marks and lists.
+// The lines on the first so many nodes, marks and heads. There are as many lists as heads: no other slice of theirs is shorter.
 fn on(
     words: &mut [u32],
     heads: &mut [u32],
@@ -111,10 +54,31 @@ fn on(
     prevs: &mut [u32],
     nexts: &mut [u32],
     marks: &mut [u8],
+    line: &[u8],
     n: usize,
     m: usize,
     k: usize,
 ) {
+    if n <= words.len() {
+        if m <= marks.len() {
+            if k <= heads.len() {
+                lines(
+                    &mut words[0..n],
+                    &mut heads[0..k],
+                    tails,
+                    currents,
+                    prevs,
+                    nexts,
+                    &mut marks[0..m],
+                    line,
+                );
+            }
+        }
+    }
+}
+
+// How large a desk is.
+fn size(n: usize, m: usize, k: usize) {
     show::text(b"# desk: nodes");
     show::number(n as u64);
     show::text(b"; marks");
@@ -122,20 +86,6 @@ fn on(
     show::text(b"; lists");
     show::number(k as u64);
     show::text(b"\n");
-    if n <= words.len() {
-        if m <= marks.len() {
-            of_lists(
-                &mut words[0..n],
-                heads,
-                tails,
-                currents,
-                prevs,
-                nexts,
-                &mut marks[0..m],
-                k,
-            );
-        }
-    }
 }
 
 // What the lines leave of node 4095 and of list 63: word, mark, ends, cursor.
@@ -154,7 +104,7 @@ fn left(word: u32, mark: u8, head: u32, tail: u32, current: u32, prev: u32, next
 }
 
 // A desk with all marks 9 before the lines.
-fn one(n: usize, m: usize, k: usize) {
+fn one(line: &[u8], n: usize, m: usize, k: usize) {
     let mut words = [1u32; 4097];
     let mut heads = [0u32; 65];
     let mut tails = [0u32; 65];
@@ -162,6 +112,7 @@ fn one(n: usize, m: usize, k: usize) {
     let mut prevs = [0u32; 65];
     let mut nexts = [0u32; 65];
     let mut marks = [9u8; 4097];
+    size(n, m, k);
     on(
         &mut words,
         &mut heads,
@@ -170,6 +121,7 @@ fn one(n: usize, m: usize, k: usize) {
         &mut prevs,
         &mut nexts,
         &mut marks,
+        line,
         n,
         m,
         k,
@@ -186,8 +138,9 @@ fn one(n: usize, m: usize, k: usize) {
 }
 
 pub(crate) fn run() {
-    one(4096, 4096, 64);
-    one(4097, 4097, 64);
-    one(4096, 4096, 65);
-    one(4096, 4095, 64);
+    one(b"113f000fff", 4096, 4096, 64);
+    one(b"1140000fff", 4096, 4096, 64);
+    one(b"113f000fff", 4097, 4097, 64);
+    one(b"113f000fff", 4096, 4096, 65);
+    one(b"113f000fff", 4096, 4095, 64);
 }
