@@ -1,7 +1,8 @@
 // The limits of the rules: a list of all 4,096 nodes, on which each kind of call is accepted, and the same words with one
-// node more, on which each is refused 1; records of width 256 and 257; directories of 64 lists and of 65. One line a call:
-// the number that it answers, the node that it hands out, and what it hands back. The expected output was worked out from
-// the paper that sets the rules, and not from a run.
+// node more, on which each is refused 1; records of width 256 and 257; directories of 64 lists and of 65; lent desks of as
+// many. One line a call: the number that it answers, the node that it hands out, and what it hands back. The expected
+// output was worked out from the paper that sets the rules, and not from a run.
+mod desks;
 mod directories;
 mod pools;
 mod show;
@@ -11,4 +12,5 @@ fn main() {
     pools::run();
     widths::run();
     directories::run();
+    desks::run();
 }
