@@ -6,7 +6,7 @@ fn main() {
     let folder = Path::new(&here).join("../../target/staticlib");
     let library = folder.join("librewzhanok.a");
     if !library.exists() {
-        println!("cargo:warning=target/staticlib/librewzhanok.a is not built yet (rt check rewzhanok)");
+        println!("cargo:warning=target/staticlib/librewzhanok.a is not built yet (rt staticlib rewzhanok)");
     }
     println!("cargo:rustc-link-search=native={}", folder.display());
     println!("cargo:rustc-link-lib=static=rewzhanok");

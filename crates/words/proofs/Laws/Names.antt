@@ -15,8 +15,8 @@ use Rattle.words.proofs.Laws.Cases.{both}
 
 -- ---- the limit
 
--- how small a pool within the limit is: what the numbers of nodes, and their names, need to fit a word. No other law looks
--- at the limit.
+-- how small a pool within the limit is: what the numbers of nodes, and their names, need to fit a word. No other law depends
+-- on what the limit is.
 pub fits-small : (n : ℕ) → poolFits n ≡ true → n ≤ 16777216
 unfolding poolFits poolLimit
 fits-small n h = let k = leb-true n poolLimit h in omega arith
