@@ -36,7 +36,7 @@ def functions():
         crate = path.relative_to(CRATES).parts[0]
         inner = [] if path.stem in ("lib", "main") else [path.stem]
         owner = None
-        for m in re.finditer(r'^impl (\w+)|^\}|^\s*pub (?:extern "C" )?fn (\w+)', path.read_text(encoding="utf-8"), re.M):
+        for m in re.finditer(r'^impl(?:<[^>]*>)? (\w+)|^\}|^\s*pub (?:extern "C" )?fn (\w+)', path.read_text(encoding="utf-8"), re.M):
             if m.group(1):
                 owner = m.group(1)
             elif m.group(2):

@@ -3,14 +3,19 @@
 
 - every file of Rattle and of antt starts with a comment that says what it is for;
 - a public function has an `ensures`, and no `requires`;
-- each public function has at least two must-fail edits, whose labels begin with its name, or its type's and its name;
+- each public function has at least two must-fail edits, whose labels begin with its name, or its type's and its name, or which
+  name it in a line `# refused:`; a method that only passes its call on, in a crate of such methods, has at least one;
 - no proof rests on an axiom of its own, nor on `lem` or `ac`.
 """
 import pathlib
 import re
 import sys
 
+from edits import labels, path_is, refused_names
+
 ROOT = pathlib.Path(__file__).resolve().parent.parent
+# The crates whose methods only pass their calls on, to functions that have their own edits.
+FORWARDING = ("cursor_mut", "xor_linked_list")
 wrong = []
 
 
@@ -18,7 +23,7 @@ def public_functions(text):
     """Pairs of a public function's name, with its type's if it has one, and its contract."""
     text = re.sub(r"//[^\n]*", "", text)
     owner = None
-    for m in re.finditer(r"^impl (\w+)|^\}|^\s*pub (?:extern \"C\" )?fn (\w+)(.*?)\n\s*\{\n", text, re.M | re.S):
+    for m in re.finditer(r"^impl(?:<[^>]*>)? (\w+)|^\}|^\s*pub (?:extern \"C\" )?fn (\w+)(.*?)\n\s*\{\n", text, re.M | re.S):
         if m.group(1):
             owner = m.group(1)
         elif m.group(2):
@@ -27,14 +32,14 @@ def public_functions(text):
             owner = None
 
 
-def labels(name):
-    """What the labels of a function's edits may begin with: `next-`, or `link_ops_next-`."""
-    snake = "_".join(re.sub(r"(?<!^)(?=[A-Z])", "_", part).lower() for part in name.split("::"))
-    return (name.split("::")[-1] + "-", snake + "-")
+def edits_of(crate, name):
+    """How many of a crate's edits are of this function."""
+    return sum(edit.stem.startswith(labels(name)) or any(path_is(name, other) for other in refused_names(edit))
+               for edit in crate.glob("must-fail/*.edit"))
 
 
 for crate in sorted((ROOT / "crates").iterdir()):
-    edits = [e.stem for e in crate.glob("must-fail/*.edit")]
+    least = 1 if crate.name in FORWARDING else 2
     for path in sorted(crate.rglob("*")):
         where = path.relative_to(ROOT)
         if path.suffix not in (".rt", ".antt"):
@@ -50,8 +55,8 @@ for crate in sorted((ROOT / "crates").iterdir()):
                     wrong.append(f"{where}: {name} is public and has a requires")
                 if "ensures" not in contract:
                     wrong.append(f"{where}: {name} is public and has no ensures")
-                if sum(e.startswith(labels(name)) for e in edits) < 2:
-                    wrong.append(f"{where}: {name} has fewer than two must-fail edits")
+                if edits_of(crate, name) < least:
+                    wrong.append(f"{where}: {name} has fewer than {least} must-fail edits")
 
 print("\n".join(wrong) if wrong else "the tree is as it should be")
 sys.exit(1 if wrong else 0)

@@ -3,22 +3,17 @@
 use Prim.Native.Nat.{ℕ, zero, suc, _+_}
 use mathlib.Core.Bool.{Bool, _&&_, not, cond}
 use mathlib.Core.List.{List, [], _∷_}
-use lib.Dec.{leb}
 use lib.ListN.{length, getD}
-use Rattle.words.specs.Names.{isLinked}
-use Rattle.standing.specs.declared.answer.Refusal.{Refusal}
-use Rattle.standing.specs.declared.answer.Refusal.the-variants.{Size, EndsDoNotHold, NoListing}
-use Rattle.standing.specs.declared.answer.Answer.the-variants.{Done, Refused}
-use Rattle.standing.specs.declared.ends.Ends.{Ends}
-use Rattle.standing.specs.Ends.{endsOf}
-use Rattle.standing.specs.Tests.{endsHold}
+use Rattle.words.specs.Names.{directoryFits, isLinked}
+use Rattle.answers.specs.declared.Refusal.{Refusal}
+use Rattle.answers.specs.declared.Refusal.the-variants.{Size, EndsDoNotHold, NoListing}
+use Rattle.answers.specs.declared.Answer.the-variants.{Done, Refused}
+use Rattle.ends.specs.declared.Ends.{Ends}
+use Rattle.ends.specs.Ends.{endsOf}
+use Rattle.ends.specs.Tests.{endsHold}
 use Rattle.walk.specs.Marks.{isMarked, unmarked, sizesFit, Marking, marking}
 use Rattle.walk.specs.Calls.{walkList}
-use Rattle.audit.specs.declared.audit.Audited.{Audited}
-
--- The most lists that a directory may have. This is the only place that says so.
-unfoldable pub directoryLimit : ℕ
-directoryLimit = 64
+use Rattle.audit.specs.declared.Audited.{Audited}
 
 -- The records of the lists with these heads and tails: as many as there are of both.
 abbrev pub zipEnds : List ℕ → List ℕ → List Ends
@@ -28,7 +23,7 @@ zipEnds (h ∷ hs) (t ∷ ts) = endsOf (record { 0 = h }) (record { 0 = t }) ∷
 
 -- The pool and the directory are within their limits, and there is one mark a node.
 unfoldable pub auditFits : List ℕ → List Ends → List ℕ → Bool
-auditFits ws es ms = sizesFit ws ms && leb (length es) directoryLimit
+auditFits ws es ms = sizesFit ws ms && directoryFits (length es)
 
 -- Which list fails a test first, if any does.
 pub data Lowest : Type 0 where
@@ -46,7 +41,7 @@ unfoldable pub walksOf : List ℕ → ℕ → List Ends → List ℕ → Marking
 walksOf ws k [] ms = marking ms none
 walksOf ws k (e ∷ es) ms =
     let w = walkList ws ms e (k + 1) in
-    cond (w .answer .ok) (walksOf ws (k + 1) es (w .marks)) (marking (w .marks) (list k))
+    cond (w .result .ok) (walksOf ws (k + 1) es (w .marks)) (marking (w .marks) (list k))
 
 -- 1 for a test that passes, 0 for one that fails.
 unfoldable pub bit : Bool → ℕ
@@ -73,7 +68,7 @@ afterWalks ws ms (list k) = marking (unmarked ms) (refusedAt NoListing k)
 
 -- What the ends show: 4 at the lowest list that failed; or else it is for the walks, over marks of which none is set.
 abbrev pub afterEnds : List ℕ → List Ends → List ℕ → Lowest → Marking Audited
-afterEnds ws es ms none = let w = walksOf ws 0 es (unmarked ms) in afterWalks ws (w .marks) (w .answer)
+afterEnds ws es ms none = let w = walksOf ws 0 es (unmarked ms) in afterWalks ws (w .marks) (w .result)
 afterEnds ws es ms (list k) = marking ms (refusedAt EndsDoNotHold k)
 
 -- The audit: the sizes, then the ends of all lists, then their walks.

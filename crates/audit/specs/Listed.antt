@@ -7,8 +7,8 @@ use lib.Bits.{bitXor}
 use lib.ListN.{getD}
 use Rattle.words.specs.Names.{isLinked}
 use Rattle.words.specs.Listing.{Apart, Listing}
-use Rattle.standing.specs.declared.ends.Ends.{Ends}
-use Rattle.standing.specs.Tests.{endsHold}
+use Rattle.ends.specs.declared.Ends.{Ends}
+use Rattle.ends.specs.Tests.{endsHold}
 use Rattle.walk.specs.Marks.{elem, paint}
 
 -- The ends of every list hold.

@@ -2,21 +2,21 @@
 use Prim.Native.Nat.{ℕ, _+_, _%_, _^_}
 use mathlib.Core.Bool.{Bool, true, false, _&&_, cond}
 use mathlib.Core.List.{List, [], _∷_}
-use lib.Dec.{eqb, leb}
+use lib.Dec.{eqb}
 use lib.ListN.{length}
-use Rattle.words.specs.Names.{poolFits}
-use Rattle.standing.specs.declared.answer.Refusal.{Refusal}
-use Rattle.standing.specs.declared.answer.Refusal.the-variants.{Size, EndsDoNotHold, NoListing}
-use Rattle.standing.specs.declared.answer.Answer.the-variants.{Done, Refused}
-use Rattle.standing.specs.declared.ends.Ends.{Ends}
-use Rattle.standing.specs.Answer.{isRefused}
-use Rattle.standing.specs.Tests.{endsHold}
+use Rattle.words.specs.Names.{directoryFits, poolFits}
+use Rattle.answers.specs.declared.Refusal.{Refusal}
+use Rattle.answers.specs.declared.Refusal.the-variants.{Size, EndsDoNotHold, NoListing}
+use Rattle.answers.specs.declared.Answer.the-variants.{Done, Refused}
+use Rattle.ends.specs.declared.Ends.{Ends}
+use Rattle.answers.specs.Answer.{isRefused}
+use Rattle.ends.specs.Tests.{endsHold}
 use Rattle.walk.specs.Marks.{isMarked, unmarked, sizesFit, Marking, marking}
 use Rattle.walk.specs.Calls.{walkList}
-use Rattle.audit.specs.declared.audit.Audited.{Audited}
-use Rattle.audit.specs.declared.audit.Progress.{Progress}
+use Rattle.audit.specs.declared.Audited.{Audited}
+use Rattle.audit.specs.declared.Progress.{Progress}
 use Rattle.audit.specs.declared.count.Counted.{Counted}
-use Rattle.audit.specs.Audit.{directoryLimit, tally, isStranded}
+use Rattle.audit.specs.Audit.{tally, isStranded}
 
 -- Both counts of nodes; none where the sizes do not fit.
 unfoldable pub countedOf : List ℕ → List ℕ → Counted
@@ -28,7 +28,7 @@ countedOf ws ms =
 -- Before the first pass, by the number of nodes, of marks and of lists.
 unfoldable pub begunOf : ℕ → ℕ → ℕ → Progress
 begunOf n m l =
-    cond (poolFits n && eqb m n && leb l directoryLimit)
+    cond (poolFits n && eqb m n && directoryFits l)
     (record { answer = Done; list = 0; walking = false })
     (record { answer = Refused Size; list = 0; walking = false })
 
@@ -43,19 +43,19 @@ judgedOf s ok r =
     (record { answer = Refused r; list = s .list; walking = s .walking })
 
 -- One list: nothing once refused; else its walk, or the test of its ends.
-unfoldable pub turnOf : List ℕ → List ℕ → Progress → Ends → Marking Progress
-turnOf ws ms s e =
+unfoldable pub listStepOf : List ℕ → List ℕ → Progress → Ends → Marking Progress
+listStepOf ws ms s e =
     let w = walkList ws ms e (nextList (s .list)) in
     cond (isRefused (s .answer))
     (marking ms s)
     (cond (s .walking)
-    (marking (w .marks) (judgedOf s (w .answer .ok) NoListing))
+    (marking (w .marks) (judgedOf s (w .result .ok) NoListing))
     (marking ms (judgedOf s (endsHold ws e) EndsDoNotHold)))
 
 -- A pass over the lists in turn.
 unfoldable pub passOf : List ℕ → List Ends → List ℕ → Progress → Marking Progress
 passOf ws [] ms s = marking ms s
-passOf ws (e ∷ es) ms s = let t = turnOf ws ms s e in passOf ws es (t .marks) (t .answer)
+passOf ws (e ∷ es) ms s = let t = listStepOf ws ms s e in passOf ws es (t .marks) (t .result)
 
 -- Between the passes.
 unfoldable pub toWalks : List ℕ → Progress → Marking Progress

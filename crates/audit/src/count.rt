@@ -1,5 +1,5 @@
 // Nodes on lists and stranded nodes, counted by the marks that the walks leave.
-use links::link_ops::Link;
+use words::link_ops::Link;
 ghost use mathlib.Core.Path.{_≡_};
 ghost use mathlib.Core.Bool.{not, _&&_};
 ghost use lib.Dec.{eqb};

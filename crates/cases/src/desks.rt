@@ -1,146 +1,72 @@
 // Lent desks of 4,096 nodes and 64 lists, and of one more, with a mark for each node and with one short. All nodes are free
 // and all lists empty. Node 4095 is pushed on list 63, or on list 64, and then all is audited.
 use crate::show;
+use crate::text;
 
-// A line, the number that it is answered by, and the two fields.
-fn obey(
-    words: &mut [u32],
-    heads: &mut [u32],
-    tails: &mut [u32],
-    currents: &mut [u32],
-    prevs: &mut [u32],
-    nexts: &mut [u32],
-    marks: &mut [u8],
-    line: &[u8],
-) {
-    let r = lent::obey::obey_line(words, heads, tails, currents, prevs, nexts, marks, line);
-    show::text(line);
-    show::number(r.number as u64);
-    show::number(r.first as u64);
-    show::number(r.second as u64);
-    show::text(b"\n");
+// Five words a list.
+struct Desk {
+    words: [u32; 4097],
+    lists: [u32; 325],
+    marks: [u8; 4097],
 }
 
-// The line, and an audit.
-fn lines(
-    words: &mut [u32],
-    heads: &mut [u32],
-    tails: &mut [u32],
-    currents: &mut [u32],
-    prevs: &mut [u32],
-    nexts: &mut [u32],
-    marks: &mut [u8],
-    line: &[u8],
-) {
-    obey(words, heads, tails, currents, prevs, nexts, marks, line);
-    obey(
-        words,
-        heads,
-        tails,
-        currents,
-        prevs,
-        nexts,
-        marks,
-        b"1400000000",
+// The ten bytes from a place of the lines, run on the first so many nodes, marks and words of lists.
+fn step(from: usize, n: u32, m: u32, k: u32, d: Desk) -> Desk {
+    let mut words = d.words;
+    let mut lists = d.lists;
+    let mut marks = d.marks;
+    let lines = b"113f000fff1140000fff1400000000";
+    let line = text::part(lines, from, from % 100 + 10);
+    io::write_all(1, line);
+    let r = lent_desk::step_bytes(
+        text::cut(&mut words, n as usize),
+        text::cut(&mut lists, k as usize),
+        text::cut_marks(&mut marks, m as usize),
+        line,
     );
-}
-
-// The lines on the first so many nodes, marks and heads. There are as many lists as heads: no other slice of theirs is shorter.
-fn on(
-    words: &mut [u32],
-    heads: &mut [u32],
-    tails: &mut [u32],
-    currents: &mut [u32],
-    prevs: &mut [u32],
-    nexts: &mut [u32],
-    marks: &mut [u8],
-    line: &[u8],
-    n: usize,
-    m: usize,
-    k: usize,
-) {
-    if n <= words.len() {
-        if m <= marks.len() {
-            if k <= heads.len() {
-                lines(
-                    &mut words[0..n],
-                    &mut heads[0..k],
-                    tails,
-                    currents,
-                    prevs,
-                    nexts,
-                    &mut marks[0..m],
-                    line,
-                );
-            }
-        }
+    show::values(25, [r.number, r.first, r.second, 0, 0, 0, 0, 0, 0, 0, 0]);
+    Desk {
+        words,
+        lists,
+        marks,
     }
 }
 
-// How large a desk is.
-fn size(n: usize, m: usize, k: usize) {
-    show::text(b"# desk: nodes");
-    show::number(n as u64);
-    show::text(b"; marks");
-    show::number(m as u64);
-    show::text(b"; lists");
-    show::number(k as u64);
-    show::text(b"\n");
-}
-
 // What the lines leave of node 4095 and of list 63: word, mark, ends, cursor.
-fn left(word: u32, mark: u8, head: u32, tail: u32, current: u32, prev: u32, next: u32) {
-    show::text(b"left");
-    show::number(word as u64);
-    show::byte(mark);
-    show::text(b" |");
-    show::number(head as u64);
-    show::number(tail as u64);
-    show::text(b" |");
-    show::number(current as u64);
-    show::number(prev as u64);
-    show::number(next as u64);
-    show::text(b"\n");
+fn left(d: Desk) {
+    show::values(
+        26,
+        [
+            d.words[4095],
+            d.marks[4095] as u32,
+            d.lists[315],
+            d.lists[316],
+            d.lists[317],
+            d.lists[318],
+            d.lists[319],
+            0,
+            0,
+            0,
+            0,
+        ],
+    );
 }
 
-// A desk with all marks 9 before the lines.
-fn one(line: &[u8], n: usize, m: usize, k: usize) {
-    let mut words = [1u32; 4097];
-    let mut heads = [0u32; 65];
-    let mut tails = [0u32; 65];
-    let mut currents = [0u32; 65];
-    let mut prevs = [0u32; 65];
-    let mut nexts = [0u32; 65];
-    let mut marks = [9u8; 4097];
-    size(n, m, k);
-    on(
-        &mut words,
-        &mut heads,
-        &mut tails,
-        &mut currents,
-        &mut prevs,
-        &mut nexts,
-        &mut marks,
-        line,
-        n,
-        m,
-        k,
-    );
-    left(
-        words[4095],
-        marks[4095],
-        heads[63],
-        tails[63],
-        currents[63],
-        prevs[63],
-        nexts[63],
-    );
+// A line and an audit on a desk of so many lists, with all marks 9.
+fn one(line: usize, n: u32, m: u32, k: u32, words: u32) {
+    let d = Desk {
+        words: [1u32; 4097],
+        lists: [0u32; 325],
+        marks: [9u8; 4097],
+    };
+    show::values(24, [n, m, k, 0, 0, 0, 0, 0, 0, 0, 0]);
+    left(step(20, n, m, words, step(line, n, m, words, d)));
 }
 
 pub(crate) fn run() {
-    one(b"113f000fff", 4096, 4096, 64);
-    one(b"1140000fff", 4096, 4096, 64);
-    one(b"113f000fff", 4097, 4097, 64);
-    one(b"113f000fff", 4096, 4096, 65);
-    one(b"113f000fff", 4096, 4095, 64);
+    one(0, 4096, 4096, 64, 320);
+    one(10, 4096, 4096, 64, 320);
+    one(0, 4097, 4097, 64, 320);
+    one(0, 4096, 4096, 65, 325);
+    one(0, 4096, 4095, 64, 320);
 }

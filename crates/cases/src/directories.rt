@@ -1,47 +1,10 @@
 // Directories of 64 lists and of 65, on the greatest pool and on one more. Node 0 is alone on list 0, node 4095 on list
 // 63, and node 1 is stranded; all other lists are empty, and all other nodes are free.
 use crate::show;
+use crate::text;
+use audit::Audited;
 
-fn audit_it(words: &[u32], heads: &[u32], tails: &[u32], marks: &mut [u8]) {
-    let r = audit::audit::audit(words, heads, tails, marks);
-    let a = r.answer;
-    show::answer(b"", a);
-    show::number(r.list as u64);
-    show::number(r.on_lists as u64);
-    show::number(r.stranded as u64);
-    show::text(b" |");
-    if 4095 < marks.len() {
-        show::byte(marks[0]);
-        show::byte(marks[1]);
-        show::byte(marks[4095]);
-    }
-    show::text(b"\n");
-}
-
-// The audit of the first lists.
-fn of_lists(words: &[u32], heads: &[u32], tails: &[u32], lists: usize, marks: &mut [u8]) {
-    if lists <= heads.len() {
-        if lists <= tails.len() {
-            audit_it(words, &heads[0..lists], &tails[0..lists], marks);
-        }
-    }
-}
-
-// The audit of the first n nodes.
-fn on(words: &[u32], n: usize, heads: &[u32], tails: &[u32], lists: usize, marks: &mut [u8]) {
-    show::text(b"audit: nodes");
-    show::number(n as u64);
-    show::text(b"; lists");
-    show::number(lists as u64);
-    show::text(b":");
-    if n <= words.len() {
-        if n <= marks.len() {
-            of_lists(&words[0..n], heads, tails, lists, &mut marks[0..n]);
-        }
-    }
-}
-
-fn pool() -> [u32; 4097] {
+pub(crate) fn pool() -> [u32; 4097] {
     let mut words = [1u32; 4097];
     words[0] = 0;
     words[1] = 0;
@@ -59,24 +22,54 @@ fn side(before: u32, last: u32, after: u32) -> [u32; 65] {
     ends
 }
 
-// An audit with all marks 9 before it.
-fn one(n: usize, lists: usize, heads: [u32; 65], tails: [u32; 65]) {
+// What the audit answers, and the marks of nodes 0, 1 and 4095.
+fn shown(nodes: u32, lists: u32, r: Audited, marks: [u8; 4097]) {
+    let a = r.answer;
+    let f = a.node();
+    let m = text::part(&marks, 0, 4097);
+    show::values(
+        21,
+        [
+            nodes,
+            lists,
+            a.number(),
+            show::node(f, 0),
+            show::node(f, 1),
+            r.list,
+            r.on_lists,
+            r.stranded,
+            text::byte(m, 0) as u32,
+            text::byte(m, 1) as u32,
+            text::byte(m, 4095) as u32,
+        ],
+    );
+}
+
+// An audit of the first nodes and the first lists, with all marks 9 before it: the name of the one node of list 62, head and
+// tail of list 63, and the head of list 64, which has no tail.
+fn audit(nodes: u32, lists: u32, before: u32, head: u32, tail: u32, after: u32) {
+    let k = lists as usize;
     let words = pool();
+    let heads = side(before, head, after);
+    let tails = side(before, tail, 0);
     let mut marks = [9u8; 4097];
-    on(&words, n, &heads, &tails, lists, &mut marks);
+    let r = audit::audit(
+        text::first(&words, nodes as usize),
+        text::first(&heads, k),
+        text::first(&tails, k),
+        text::cut_marks(&mut marks, nodes as usize),
+    );
+    shown(nodes, lists, r, marks);
 }
 
 pub(crate) fn run() {
-    let sound = side(0, 8192, 0);
-    one(4096, 64, sound, sound);
-    one(4096, 65, sound, sound);
-    one(4097, 64, sound, sound);
-    show::text(b"list 63 has no tail, nor has 64\n");
-    let torn = side(0, 8192, 8);
-    one(4096, 64, torn, side(0, 0, 0));
-    one(4096, 65, torn, side(0, 0, 0));
-    show::text(b"list 63 is list 62 again\n");
-    let twice = side(8192, 8192, 0);
-    one(4096, 64, twice, twice);
-    one(4096, 65, twice, twice);
+    audit(4096, 64, 0, 8192, 8192, 0);
+    audit(4096, 65, 0, 8192, 8192, 0);
+    audit(4097, 64, 0, 8192, 8192, 0);
+    show::values(22, [0; 11]);
+    audit(4096, 64, 0, 8192, 0, 8);
+    audit(4096, 65, 0, 8192, 0, 8);
+    show::values(23, [0; 11]);
+    audit(4096, 64, 8192, 8192, 8192, 0);
+    audit(4096, 65, 8192, 8192, 8192, 0);
 }

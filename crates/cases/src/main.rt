@@ -6,6 +6,7 @@ mod desks;
 mod directories;
 mod pools;
 mod show;
+mod text;
 mod widths;
 
 fn main() {

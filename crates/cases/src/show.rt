@@ -1,69 +1,138 @@
-// Printing: what a call answers and what it hands back, in short text on standard output.
-use cursor::cursor::Edited;
-use cursor::cursor::Parted;
-use list::list::Listed;
-use standing::answer::Answer;
-use standing::ends::Ends;
+// Printing: what a call hands back, by a line of a table that says how, in short text on standard output.
+use crate::text;
+use answers::Answer;
+use cursor::Cursor;
+use cursor::Edited;
+use ends::Ends;
+use list::ListEdited;
 use words::names::Found;
 
-pub(crate) fn text(s: &[u8]) {
-    io::write_all(1, s);
+fn one(b: u8) {
+    let a = [b];
+    io::write_all(1, &a);
 }
 
 // A number after a blank.
-pub(crate) fn number(n: u64) {
-    text(b" ");
-    io::print_decimal(1, n);
+fn number(n: u32) {
+    one(b' ');
+    io::print_decimal(1, n as u64);
 }
 
-// A byte as a number after a blank.
-pub(crate) fn byte(b: u8) {
-    number(b as u64);
-}
-
-// What is called, the number that it answers, and the node that it hands out, if any.
-pub(crate) fn answer(label: &[u8], a: Answer) {
-    text(label);
-    number(a.number() as u64);
-    match a.node() {
-        Found::At(node) => number(node.0 as u64),
-        Found::Nothing => text(b" -"),
+// A number that is given twice. If there is none, the two differ, and a dash is shown, or nothing.
+fn found(b: u8, n: u32, again: u32) {
+    if n == again {
+        number(n);
+    } else if b == b'@' {
+        one(b' ');
+        one(b'-');
     }
 }
 
-pub(crate) fn pair(e: Ends) {
-    text(b" |");
-    number(e.head.0 as u64);
-    number(e.tail.0 as u64);
+// An item of a line, from the next two of the values. How many it takes is handed back.
+fn item(b: u8, n: u32, next: u32) -> usize {
+    match b {
+        b'$' => {
+            number(n);
+            1
+        }
+        b'@' | b'+' => {
+            found(b, n, next);
+            2
+        }
+        b'^' => 1,
+        _ => {
+            one(b);
+            0
+        }
+    }
 }
 
-pub(crate) fn listed(label: &[u8], r: Listed) {
-    let a = r.answer;
-    let e = r.ends;
-    answer(label, a);
-    pair(e);
-    text(b"\n");
+fn value(v: &[u32], i: usize) -> u32 {
+    if i < v.len() {
+        return v[i];
+    }
+    0
 }
 
-pub(crate) fn edited(label: &[u8], r: Edited) {
-    let a = r.answer;
-    let e = r.ends;
-    let c = r.cursor;
-    answer(label, a);
-    pair(e);
-    text(b" |");
-    number(c.current.0 as u64);
-    number(c.prev.0 as u64);
-    number(c.next.0 as u64);
-    text(b"\n");
+fn line(format: &[u8], v: &[u32]) {
+    let mut at = 0;
+    let mut i = 0;
+    while i < format.len() {
+        let taken = item(format[i], value(v, at), value(v, at % 16 + 1));
+        at = std::num::wrapping_add_usize(at, taken);
+        i += 1;
+    }
 }
 
-pub(crate) fn parted(label: &[u8], r: Parted) {
+// What each line shows: $ is a number, @ a node or none, + a number or nothing, ^ a number that is not shown.
+pub(crate) fn values(code: usize, v: [u32; 11]) {
+    let table = b"# pool of$
+walk$@$
+front$@ |$$ |$$$
+back$@ |$$ |$$$
+move_next$@ |$$ |$$$
+move_prev$@ |$$ |$$$
+peek_next$@ |$$ |$$$
+place of 4095 after 4094$@ |$$ |$$$
+reverse$@ |$$
+fast_clear$@ |$$
+take$@ |$$^^^ |$$
+iterator$@
+pop_back$@ |$$
+replace by 4095$@ |$$ |$$$
+push_front of 0$@ |$$
+remove$@ |$$ |$$$
+insert_before of 0$@ |$$ |$$$
+split_after$@ |$$^^^ |$$
+splice_before$@ |$$^^^ |$$
+clear$@ |$$
+read: nodes$; records$; width$:$$++
+audit: nodes$; lists$:$@$$$ |$$$
+list 63 has no tail, nor has 64
+list 63 is list 62 again
+# desk: nodes$; marks$; lists$
+$$$
+left$$ |$$ |$$$
+";
+    let from = text::skip(table, 0, code);
+    line(text::part(table, from, text::skip(table, from, 1)), &v);
+}
+
+// The node's number, or one for none. A node is shown by two of these, with 0 and with 1 for none.
+pub(crate) fn node(f: Found, none: u32) -> u32 {
+    match f {
+        Found::At(node) => node.0,
+        Found::Nothing => none,
+    }
+}
+
+// What a call hands back: its answer, the ends, the cursor, and the other list's ends.
+pub(crate) fn outcome(code: usize, a: Answer, e: Ends, c: Cursor, other: Ends) {
+    let f = a.node();
+    values(
+        code,
+        [
+            a.number(),
+            node(f, 0),
+            node(f, 1),
+            e.head.0,
+            e.tail.0,
+            c.current.0,
+            c.prev.0,
+            c.next.0,
+            other.head.0,
+            other.tail.0,
+            0,
+        ],
+    );
+}
+
+pub(crate) fn edited(code: usize, r: Edited) {
     let a = r.answer;
-    let e = r.ends;
-    let o = r.other;
-    answer(label, a);
-    pair(e);
-    pair(o);
-    text(b"\n");
+    outcome(code, a, r.ends, r.cursor, r.ends);
+}
+
+pub(crate) fn listEdited(code: usize, r: ListEdited) {
+    let a = r.answer;
+    outcome(code, a, r.ends, Cursor::null(r.ends), r.ends);
 }

@@ -7,16 +7,18 @@ use lib.ListN.{length}
 use Rattle.words.specs.declared.names.Node.{Node}
 use Rattle.words.specs.declared.names.Name.{Name}
 use Rattle.words.specs.Names.{null, isNull}
-use Rattle.standing.specs.declared.answer.Refusal.the-variants.{EndsDoNotHold, CursorDoesNotStand, NoSuchNode, AtNull, NotEmpty}
-use Rattle.standing.specs.declared.answer.Answer.{Answer}
-use Rattle.standing.specs.declared.answer.Answer.the-variants.{Done}
-use Rattle.standing.specs.declared.ends.Ends.{Ends}
-use Rattle.standing.specs.Answer.{need, andThen, isRefused}
-use Rattle.standing.specs.Ends.{isEmpty}
-use Rattle.standing.specs.Tests.{endsHold, stands, endsTest}
-use Rattle.cursor.specs.declared.cursor.Cursor.{Cursor}
-use Rattle.cursor.specs.declared.cursor.Edited.{Edited}
-use Rattle.cursor.specs.declared.cursor.Parted.{Parted}
+use Rattle.words.specs.Pool.{Outcome, outcome}
+use Rattle.words.specs.LinkOps.{acquireLink}
+use Rattle.answers.specs.declared.Refusal.the-variants.{EndsDoNotHold, CursorDoesNotStand, NoSuchNode, AtNull, AlreadyLinked, NotEmpty}
+use Rattle.answers.specs.declared.Answer.{Answer}
+use Rattle.answers.specs.declared.Answer.the-variants.{Done}
+use Rattle.ends.specs.declared.Ends.{Ends}
+use Rattle.answers.specs.Answer.{need, andThen, isRefused}
+use Rattle.ends.specs.Ends.{isEmpty}
+use Rattle.ends.specs.Tests.{endsHold, stands, endsTest}
+use Rattle.cursor.specs.declared.Cursor.{Cursor}
+use Rattle.cursor.specs.declared.Edited.{Edited}
+use Rattle.cursor.specs.declared.EditedTwo.{EditedTwo}
 
 abbrev pub cursorOf : Name → Name → Name → Cursor
 cursorOf c p q = record { current = c; prev = p; next = q }
@@ -32,8 +34,8 @@ turnedCursor c = cursorOf (c .current) (c .next) (c .prev)
 abbrev pub edited : Answer → Ends → Cursor → Edited
 edited a e c = record { answer = a; ends = e; cursor = c }
 
-abbrev pub parted : Answer → Ends → Cursor → Ends → Parted
-parted a e c o = record { answer = a; ends = e; cursor = c; other = o }
+abbrev pub editedTwo : Answer → Ends → Cursor → Ends → EditedTwo
+editedTwo a e c o = record { answer = a; ends = e; cursor = c; other = o }
 
 abbrev pub cursorStands : List ℕ → Ends → Cursor → Bool
 cursorStands ws e c = stands ws e (c .current .0) (c .prev .0) (c .next .0)
@@ -49,6 +51,12 @@ nodeTest ws e c i = andThen (standTest ws e c) (need (ltb (i .0) (length ws)) No
 -- 8, after other tests.
 unfoldable pub someTest : Answer → Cursor → Answer
 someTest before c = andThen before (need (not (isNull (c .current))) AtNull Done)
+
+-- 9, after the other tests: a node that is not linked is acquired. What they refuse acquires nothing.
+unfoldable pub acquireNode : List ℕ → Answer → Name → Outcome Answer
+acquireNode ws test new =
+    let a = acquireLink ws (new .0) in
+    cond (isRefused test) (outcome ws test) (outcome (a .words) (need (a .result) AlreadyLinked Done))
 
 -- 1, 4 of the named list, 4 of the other, 5.
 unfoldable pub pairTest : List ℕ → Ends → Cursor → Ends → Answer

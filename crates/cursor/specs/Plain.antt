@@ -5,8 +5,8 @@ use mathlib.Core.List.{List, [], _∷_, _++_, reverse}
 use lib.Bits.{bitXor}
 use Rattle.words.specs.Names.{name}
 use Rattle.words.specs.Listing.{front, back, Listing}
-use Rattle.standing.specs.declared.ends.Ends.{Ends}
-use Rattle.cursor.specs.declared.cursor.Cursor.{Cursor}
+use Rattle.ends.specs.declared.Ends.{Ends}
+use Rattle.cursor.specs.declared.Cursor.{Cursor}
 
 -- A place on a sequence of nodes: at a node, with those ahead of it and those beyond it; or at null, with all of them.
 pub data Place : Type 0 where

@@ -4,14 +4,12 @@ use mathlib.Core.Bool.{cond}
 use Rattle.words.specs.declared.names.Found.{Found}
 use Rattle.words.specs.declared.names.Found.the-variants.{At, Nothing}
 use Rattle.words.specs.Names.{decoding}
-use Rattle.standing.specs.declared.answer.Refusal.{Refusal}
-use Rattle.standing.specs.Answer.{number, answerNumber, handed, isRefused}
-use Rattle.audit.specs.declared.audit.Audited.{Audited}
-use Rattle.desk.specs.declared.desk.Reply.{Reply}
-use Rattle.desk.specs.declared.desk.Worked.{Worked}
-
-abbrev pub reply : ℕ → ℕ → ℕ → Reply
-reply a f s = record { number = a; first = f; second = s }
+use Rattle.answers.specs.declared.Refusal.{Refusal}
+use Rattle.answers.specs.Answer.{number, answerNumber, handed, isRefused}
+use Rattle.audit.specs.declared.Audited.{Audited}
+use Rattle.lines.specs.declared.answer.Reply.{Reply}
+use Rattle.lines.specs.Answers.{reply}
+use Rattle.desk.specs.declared.Worked.{Worked}
 
 -- The field for no node: ffff.
 abbrev pub noNode : ℕ

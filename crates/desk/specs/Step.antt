@@ -2,83 +2,95 @@
 -- that follow a chain.
 use Prim.Native.Nat.{ℕ}
 use mathlib.Core.Bool.{Bool, _&&_, cond}
-use mathlib.Core.List.{List}
-use lib.Dec.{ltb, leb, eqb}
+use mathlib.Core.List.{List, map}
+use lib.Dec.{ltb, eqb}
 use lib.ListN.{length, getD, set, replicate}
+use Rattle.words.specs.Names.{directoryFits, unlinkedMarker}
 use Rattle.words.specs.Pool.{Outcome, outcome}
-use Rattle.standing.specs.declared.answer.Refusal.{Refusal}
-use Rattle.standing.specs.declared.answer.Refusal.the-variants.{Size, NoSuchList, Malformed}
-use Rattle.standing.specs.declared.ends.Ends.{Ends}
-use Rattle.standing.specs.Ends.{emptyEnds}
-use Rattle.cursor.specs.declared.cursor.Cursor.{Cursor}
+use Rattle.answers.specs.declared.Refusal.{Refusal}
+use Rattle.answers.specs.declared.Refusal.the-variants.{Size, NoSuchList, Malformed}
+use Rattle.ends.specs.declared.Ends.{Ends}
+use Rattle.ends.specs.Ends.{emptyEnds}
 use Rattle.cursor.specs.Cursor.{nullCursor}
 use Rattle.walk.specs.Marks.{sizesFit, Marking, marking}
-use Rattle.audit.specs.Audit.{directoryLimit, auditAll}
+use Rattle.audit.specs.Audit.{auditAll}
 use Rattle.lines.specs.declared.line.Order.{Order}
 use Rattle.lines.specs.declared.line.Parsed.{Parsed}
 use Rattle.lines.specs.declared.line.Parsed.the-variants.{Right, Malformed as Wrong}
-use Rattle.desk.specs.declared.desk.Desk.{Desk}
-use Rattle.desk.specs.declared.desk.Reply.{Reply}
-use Rattle.desk.specs.declared.desk.Row.{Row}
-use Rattle.desk.specs.declared.desk.Worked.{Worked}
+use Rattle.lines.specs.declared.answer.Reply.{Reply}
+use Rattle.desk.specs.declared.Row.{Row}
+use Rattle.desk.specs.declared.Worked.{Worked}
 use Rattle.desk.specs.Work.{row, workOf, clearing}
-use Rattle.desk.specs.Reply.{reply, replyTo, replyToAudit, replyUnread}
+use Rattle.lines.specs.Answers.{reply}
+use Rattle.desk.specs.Reply.{replyTo, replyToAudit, replyUnread}
+
+-- A desk: the words of its nodes, and its lists in order, each with its ends and the cursor that is kept.
+pub record Desk : Type 0 where
+  pub words : List ℕ
+  pub lists : List Row
+
+-- What a line leaves: the desk, and the answer.
+pub record DeskStepped : Type 0 where
+  pub desk : Desk
+  pub reply : Reply
+
+abbrev pub deskStepped : Desk → Reply → DeskStepped
+deskStepped d a = record { desk = d; reply = a }
+
+-- An empty list, its cursor at null.
+abbrev pub freshRow : Row
+freshRow = row emptyEnds (nullCursor emptyEnds)
 
 -- A fresh desk of n nodes and k lists: every node unlinked, every list empty, every cursor null.
 unfoldable pub freshDesk : ℕ → ℕ → Desk
-freshDesk n k =
-    record {
-      words = replicate n 1;
-      ends = replicate k emptyEnds;
-      cursors = replicate k (nullCursor emptyEnds);
-      reply = reply 0 0 0;
-    }
+freshDesk n k = record { words = replicate n unlinkedMarker; lists = replicate k freshRow }
 
 -- List l of a desk.
 abbrev pub rowAt : Desk → ℕ → Row
-rowAt d l = row (getD (d .ends) l emptyEnds) (getD (d .cursors) l (nullCursor emptyEnds))
+rowAt d l = getD (d .lists) l freshRow
 
--- The desk with another row for list l.
+-- The desk with another list l, and with other words.
 abbrev pub putRow : Desk → ℕ → Row → Desk
-putRow d l r = record { words = d .words; ends = set (d .ends) l (r .ends); cursors = set (d .cursors) l (r .cursor); reply = d .reply }
-
--- The desk with another answer, and with other words.
-abbrev pub answering : Desk → Reply → Desk
-answering d a = record { words = d .words; ends = d .ends; cursors = d .cursors; reply = a }
+putRow d l r = record { words = d .words; lists = set (d .lists) l r }
 
 abbrev pub putWords : Desk → List ℕ → Desk
-putWords d ws = record { words = ws; ends = d .ends; cursors = d .cursors; reply = d .reply }
+putWords d ws = record { words = ws; lists = d .lists }
+
+-- The ends of all lists, which is what an audit takes.
+abbrev pub endsOfAll : List Row → List Ends
+endsOfAll rs = map (λ r. r .ends) rs
 
 -- 1: the pool and the directory are within their limits, and there is one mark a node.
 unfoldable pub deskFits : Desk → List ℕ → Bool
-deskFits d ms = sizesFit (d .words) ms && leb (length (d .ends)) directoryLimit
+deskFits d ms = sizesFit (d .words) ms && directoryFits (length (d .lists))
 
 -- 2: there are such lists. A field that is not used is zero, and there is a list 0 if there is any.
 unfoldable pub listsThere : Desk → Order → Bool
-listsThere d o = ltb (o .list) (length (d .ends)) && ltb (o .other) (length (d .ends))
+listsThere d o = ltb (o .list) (length (d .lists)) && ltb (o .other) (length (d .lists))
 
 -- A command on lists: clear, or one that follows no chain.
 unfoldable pub command : List ℕ → List ℕ → Row → Row → Order → Outcome (Marking Worked)
 command ws ms r q o =
-    let w = workOf ws r q o in cond (eqb (o .code) 13) (clearing ws ms r q) (outcome (w .words) (marking ms (w .answer)))
+    let w = workOf ws r q o in cond (eqb (o .code) 13) (clearing ws ms r q) (outcome (w .words) (marking ms (w .result)))
 
--- What a command comes to goes back to the desk: the words, the other list, then the named one, and the answer.
-unfoldable pub putBack : Desk → Order → Outcome (Marking Worked) → Marking Desk
+-- What a command comes to goes back to the desk: the words, the other list, then the named one; and it is answered.
+unfoldable pub putBack : Desk → Order → Outcome (Marking Worked) → Marking DeskStepped
 putBack d o w =
-    let r = w .answer .answer in
+    let r = w .result .result in
     let d1 = putRow (putRow (putWords d (w .words)) (o .other) (r .other)) (o .list) (r .named) in
-    marking (w .answer .marks) (answering d1 (replyTo (length (d .words)) r))
+    marking (w .result .marks) (deskStepped d1 (replyTo (length (d .words)) r))
 
 -- An audit changes no list.
-unfoldable pub audited : Desk → List ℕ → Marking Desk
-audited d ms = let a = auditAll (d .words) (d .ends) ms in marking (a .marks) (answering d (replyToAudit (a .answer)))
+unfoldable pub audited : Desk → List ℕ → Marking DeskStepped
+audited d ms =
+    let a = auditAll (d .words) (endsOfAll (d .lists)) ms in marking (a .marks) (deskStepped d (replyToAudit (a .result)))
 
 -- A line that comes to no command on a list changes nothing.
-unfoldable pub unread : Desk → List ℕ → Refusal → Marking Desk
-unread d ms r = marking ms (answering d (replyUnread r))
+unfoldable pub unread : Desk → List ℕ → Refusal → Marking DeskStepped
+unread d ms r = marking ms (deskStepped d (replyUnread r))
 
 -- One line: 11, 1, the audit, 2, and then the command.
-abbrev pub step : Desk → List ℕ → Parsed → Marking Desk
+abbrev pub step : Desk → List ℕ → Parsed → Marking DeskStepped
 step d ms Wrong = unread d ms Malformed
 step d ms (Right o) =
     let done = putBack d o (command (d .words) ms (rowAt d (o .list)) (rowAt d (o .other)) o) in

@@ -6,29 +6,29 @@ use mathlib.Core.List.{List}
 use lib.Dec.{eqb}
 use Rattle.words.specs.declared.names.Node.{Node}
 use Rattle.words.specs.Pool.{Outcome, outcome}
-use Rattle.standing.specs.declared.answer.Refusal.the-variants.{SameList, Malformed}
-use Rattle.standing.specs.declared.answer.Answer.{Answer}
-use Rattle.standing.specs.declared.answer.Answer.the-variants.{Refused}
-use Rattle.standing.specs.declared.ends.Ends.{Ends}
-use Rattle.standing.specs.Answer.{isRefused}
-use Rattle.standing.specs.Tests.{endsTest}
-use Rattle.cursor.specs.declared.cursor.Cursor.{Cursor}
-use Rattle.cursor.specs.declared.cursor.Edited.{Edited}
-use Rattle.cursor.specs.declared.cursor.Parted.{Parted}
+use Rattle.answers.specs.declared.Refusal.the-variants.{SameList, Malformed}
+use Rattle.answers.specs.declared.Answer.{Answer}
+use Rattle.answers.specs.declared.Answer.the-variants.{Refused}
+use Rattle.ends.specs.declared.Ends.{Ends}
+use Rattle.answers.specs.Answer.{isRefused}
+use Rattle.ends.specs.Tests.{endsTest}
+use Rattle.cursor.specs.declared.Cursor.{Cursor}
+use Rattle.cursor.specs.declared.Edited.{Edited}
+use Rattle.cursor.specs.declared.EditedTwo.{EditedTwo}
 use Rattle.cursor.specs.Cursor.{nullCursor}
 use Rattle.moves.specs.Moves.{moveNext, movePrev}
 use Rattle.insert.specs.Inserts.{insertAfter, insertBefore}
 use Rattle.remove.specs.Removes.{remove, replace}
 use Rattle.splice.specs.Splices.{spliceAfter, spliceBefore}
 use Rattle.split.specs.Splits.{splitAfter, splitBefore}
-use Rattle.list.specs.declared.list.Listed.{Listed}
+use Rattle.list.specs.declared.ListEdited.{ListEdited}
 use Rattle.list.specs.Lists.{pushFront, pushBack, popFront, popBack, take, fastClear, reversed}
 use Rattle.walk.specs.Marks.{Marking, marking}
 use Rattle.walk.specs.Calls.{clearAll}
 use Rattle.lines.specs.declared.line.Order.{Order}
 use Rattle.lines.specs.Lines.{usesOther}
-use Rattle.desk.specs.declared.desk.Row.{Row}
-use Rattle.desk.specs.declared.desk.Worked.{Worked}
+use Rattle.desk.specs.declared.Row.{Row}
+use Rattle.desk.specs.declared.Worked.{Worked}
 
 abbrev pub row : Ends → Cursor → Row
 row e c = record { ends = e; cursor = c }
@@ -45,11 +45,11 @@ unfoldable pub atCursor : Edited → Row → Worked
 atCursor d q = worked (d .answer) (row (d .ends) (d .cursor)) q
 
 -- A call on the list: its cursor becomes null.
-unfoldable pub onList : Listed → Row → Row → Worked
+unfoldable pub onList : ListEdited → Row → Row → Worked
 onList d r q = worked (d .answer) (nulled (d .answer) r (d .ends)) q
 
 -- A call on two lists at the cursor of one: the other's becomes null.
-unfoldable pub onBoth : Parted → Row → Worked
+unfoldable pub onBoth : EditedTwo → Row → Worked
 onBoth d q = worked (d .answer) (row (d .ends) (d .cursor)) (nulled (d .answer) q (d .other))
 
 -- Take: both cursors become null.
@@ -62,7 +62,7 @@ toNull ws r q = let a = endsTest ws (r .ends) in worked a (nulled a r (r .ends))
 
 -- The outcome of a call, as that of its command.
 abbrev pub with : {A : Type 0} → (A → Worked) → Outcome A → Outcome Worked
-with f o = outcome (o .words) (f (o .answer))
+with f o = outcome (o .words) (f (o .result))
 
 -- The command with this code, on the list r, the other list q and the node i.
 unfoldable pub byCode : ℕ → List ℕ → Row → Row → Node → Outcome Worked
@@ -101,5 +101,5 @@ workOf ws r q o =
 unfoldable pub clearing : List ℕ → List ℕ → Row → Row → Outcome (Marking Worked)
 clearing ws ms r q =
     let d = clearAll ws ms (r .ends) in
-    let a = d .answer .answer .answer in
-    outcome (d .words) (marking (d .answer .marks) (worked a (nulled a r (d .answer .answer .ends)) q))
+    let a = d .result .result .answer in
+    outcome (d .words) (marking (d .result .marks) (worked a (nulled a r (d .result .result .ends)) q))

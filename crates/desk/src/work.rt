@@ -1,14 +1,14 @@
 // One command on lent words and on the lists that it names, which are handed in and back by value.
-use crate::desk::Row;
-use crate::desk::Worked;
-use cursor::cursor::Cursor;
-use cursor::cursor::Edited;
-use cursor::cursor::Parted;
+use crate::Row;
+use crate::Worked;
+use answers::Answer;
+use answers::Refusal;
+use cursor::Cursor;
+use cursor::Edited;
+use cursor::EditedTwo;
+use ends::Ends;
 use lines::line::Order;
-use list::list::Listed;
-use standing::answer::Answer;
-use standing::answer::Refusal;
-use standing::ends::Ends;
+use list::ListEdited;
 use words::names::Node;
 ghost use mathlib.Core.Path.{_≡_};
 ghost use Rattle.words.specs.Pool.{outcome};
@@ -43,7 +43,7 @@ fn at_cursor(r: Edited, other: Row) -> Worked
 }
 
 // After a call on the list.
-fn on_list(r: Listed, named: Row, other: Row) -> Worked
+fn on_list(r: ListEdited, named: Row, other: Row) -> Worked
     ensures { λ w. ⌜ w ≡ onList r named other ⌝ }
 {
     let answer = r.answer;
@@ -56,7 +56,7 @@ fn on_list(r: Listed, named: Row, other: Row) -> Worked
 }
 
 // After a call on two lists at the cursor of one: done, the other's cursor is null.
-fn on_both(r: Parted, other: Row) -> Worked
+fn on_both(r: EditedTwo, other: Row) -> Worked
     ensures { λ w. ⌜ w ≡ onBoth r other ⌝ }
 {
     let answer = r.answer;
@@ -76,7 +76,7 @@ fn take(words: &[u32], named: Row, other: Row) -> Worked
 {
     let from = named.ends;
     let to = other.ends;
-    let r = list::list::take(words, from, to);
+    let r = list::take(words, from, to);
     let answer = r.answer;
     let ends = r.ends;
     let out = r.other;
@@ -92,7 +92,7 @@ fn to_null(words: &[u32], named: Row, other: Row) -> Worked
     ensures { λ w. ⌜ w ≡ toNull (now (words .entry)) named other ⌝ }
 {
     let ends = named.ends;
-    let answer = standing::tests::ends_test(words, ends);
+    let answer = ends::tests::ends_test(words, ends);
     Worked {
         answer,
         named: nulled(answer, named, ends),
@@ -118,14 +118,14 @@ fn by_code(words: &mut [u32], named: Row, other: Row, code: u32, node: Node) -> 
         8 => on_both(split::split_before(c, words, e, o), other),
         9 => at_cursor(moves::move_next(c, words, e), other),
         10 => at_cursor(moves::move_prev(c, words, e), other),
-        11 => on_list(list::list::reverse(words, e), named, other),
+        11 => on_list(list::reverse(words, e), named, other),
         12 => take(words, named, other),
-        14 => on_list(list::list::fast_clear(words, e), named, other),
+        14 => on_list(list::fast_clear(words, e), named, other),
         15 => to_null(words, named, other),
-        16 => on_list(list::list::push_front(words, e, node), named, other),
-        17 => on_list(list::list::push_back(words, e, node), named, other),
-        18 => on_list(list::list::pop_front(words, e), named, other),
-        19 => on_list(list::list::pop_back(words, e), named, other),
+        16 => on_list(list::push_front(words, e, node), named, other),
+        17 => on_list(list::push_back(words, e, node), named, other),
+        18 => on_list(list::pop_front(words, e), named, other),
+        19 => on_list(list::pop_back(words, e), named, other),
         _ => Worked {
             answer: Answer::Refused(Refusal::Malformed),
             named,

@@ -1,7 +1,7 @@
 // The desk as a program: command lines from standard input, of any length, to answers on standard output. What a read brings is
 // run and its answers are written before the next read. A desk, a block of input and a block of answers are all that it keeps.
-use batch::Ran;
-use desk::desk::Desk;
+use batch_desk::BatchDesk;
+use batch_desk::Ran;
 use libc::STDIN_FILENO;
 use libc::STDOUT_FILENO;
 use lines::line::Line;
@@ -11,7 +11,7 @@ const ROOM: usize = 720896;
 
 // After a read: the desk, the line that is not ended yet, and whether there is more to do.
 struct Next {
-    desk: Desk,
+    desk: BatchDesk,
     line: Line,
     more: bool,
 }
@@ -28,16 +28,16 @@ fn send_in(out: &[u8; ROOM], wrote: usize) -> bool {
     send(out, wrote)
 }
 
-fn run_in(desk: Desk, line: Line, input: &[u8], out: &mut [u8; ROOM]) -> Ran {
-    batch::run(desk, line, input, out)
+fn run_in(desk: BatchDesk, line: Line, input: &[u8], out: &mut [u8; ROOM]) -> Ran {
+    batch_desk::run(desk, line, input, out)
 }
 
-fn finish_in(desk: Desk, line: Line, out: &mut [u8; ROOM]) -> Ran {
-    batch::finish(desk, line, out, 0)
+fn finish_in(desk: BatchDesk, line: Line, out: &mut [u8; ROOM]) -> Ran {
+    batch_desk::finish(desk, line, out, 0)
 }
 
 // One read and its answers; at the end of the input, the answer to a line that is not ended.
-fn turn(desk: Desk, line: Line, out: &mut [u8; ROOM]) -> Next {
+fn turn(desk: BatchDesk, line: Line, out: &mut [u8; ROOM]) -> Next {
     let mut buf = io::large_buffer();
     let got = libc::read(STDIN_FILENO, &mut buf);
     let n = io::count(got, &buf);
@@ -65,7 +65,7 @@ fn turn(desk: Desk, line: Line, out: &mut [u8; ROOM]) -> Next {
 
 fn main() {
     let mut out = [0u8; ROOM];
-    let mut desk = batch::fresh();
+    let mut desk = batch_desk::fresh();
     let mut line = Line::new();
     let mut more = true;
     let mut turns = u64::MAX;

@@ -1,67 +1,99 @@
-// A line of the input as it is read: its first letter, and the numbers after its colon.
+// The arguments that a line of the input gives, by their place among the words after its colon.
 
-pub(crate) struct Line {
-    pub(crate) kind: u8,
-    pub(crate) numbers: [u64; 32],
-    count: usize,
-    value: u64,
-    in_number: bool,
-    after_colon: bool,
+// The arguments, by number.
+pub(crate) const NODES: usize = 0;
+
+pub(crate) const MARKS: usize = 1;
+
+pub(crate) const HEAD: usize = 2;
+
+pub(crate) const TAIL: usize = 3;
+
+pub(crate) const CURRENT: usize = 4;
+
+pub(crate) const PREV: usize = 5;
+
+pub(crate) const NEXT: usize = 6;
+
+pub(crate) const NODE: usize = 7;
+
+pub(crate) const OTHER_HEAD: usize = 8;
+
+pub(crate) const OTHER_TAIL: usize = 9;
+
+pub(crate) const FIRST_WORD: usize = 10;
+
+pub(crate) const FIRST_MARK: usize = 11;
+
+// A byte, 0 past the end.
+pub(crate) fn byte(s: &[u8], i: usize) -> u8 {
+    if i < s.len() {
+        return s[i];
+    }
+    0
 }
 
-impl Line {
-    // Numbers that are not given are 1, so that a word that is not given is a free node's.
-    pub(crate) fn new() -> Line {
-        Line {
-            kind: 0,
-            numbers: [1u64; 32],
-            count: 0,
-            value: 0,
-            in_number: false,
-            after_colon: false,
+// A part, all if there is no such part.
+pub(crate) fn part(s: &[u8], from: usize, to: usize) -> &[u8] {
+    if from <= to {
+        if to <= s.len() {
+            return &s[from..to];
         }
     }
+    s
+}
 
-    // The number that was being read is at its end.
-    pub(crate) fn end(mut self) -> Line {
-        let at = self.count;
-        if self.in_number {
-            if at < 32 {
-                self.numbers[at] = self.value;
-                self.count = at + 1;
-            }
-        }
-        self.in_number = false;
-        self.value = 0;
-        self
+// Past so many of these bytes, from a place on.
+pub(crate) fn skip(s: &[u8], from: usize, mark: u8, count: usize) -> usize {
+    let mut left = count;
+    let mut i = from;
+    while i < s.len() && 0 < left {
+        left = std::num::wrapping_sub_usize(left, (s[i] == mark) as usize);
+        i += 1;
     }
+    i
+}
 
-    fn digit(mut self, d: u8) -> Line {
-        self.value = std::num::wrapping_add_u64(self.value % 1844674407370955162 * 10, d as u64);
-        self.in_number = true;
-        self
+// The number that begins here, if there is one.
+fn digits(s: &[u8], from: usize, none: usize) -> usize {
+    let mut n = 0;
+    let mut i = from;
+    while i < s.len() && std::num::wrapping_sub_u8(byte(s, i), b'0') < 10 {
+        n = std::num::wrapping_add_usize(n % 1844674407370955162 * 10, (byte(s, i) % 16) as usize);
+        i += 1;
     }
+    if i == from {
+        return none;
+    }
+    n
+}
 
-    fn begun(mut self, b: u8) -> Line {
-        if self.kind == 0 {
-            self.kind = b;
-        }
-        if b == b':' {
-            self.after_colon = true;
-        }
-        self
-    }
+// Which word has an argument, by the kind of a line: a for the first after the colon, a dot if it is not given. A row is a
+// kind and then the arguments in their order. A directory has how many heads and tails there are for head and tail, and the
+// first of each for current and prev; a read has how many bytes and how wide a record for the other's head and tail.
+fn place(kind: u8, argument: usize) -> u8 {
+    let rows = b"N.......a....
+Sb...dhjf..l.
+Eb.deghikmnp.
+Fb.deghikmnp.
+Lbdfg...ikln.
+Mbide...g..tk
+Dbdfhjk....s.
+Pb.de...gi.k.
+Ab.de...g..i.
+Ib.hi.gj...l.
+Rb.deghi.kmo.";
+    let row = skip(rows, 0, kind % 32 + 64, 1);
+    byte(rows, std::num::wrapping_add_usize(row, argument))
+}
 
-    pub(crate) fn feed(self, b: u8) -> Line {
-        if !self.after_colon {
-            return self.begun(b);
-        }
-        if b < b'0' {
-            return self.end();
-        }
-        if b'9' < b {
-            return self.end();
-        }
-        self.digit(b - b'0')
+// An argument, or the one so many words after it; none if it is not given.
+pub(crate) fn number(line: &[u8], argument: usize, after: usize, none: usize) -> usize {
+    let p = place(byte(line, 0), argument);
+    if p < b'a' {
+        return none;
     }
+    let colon = skip(line, 0, b':', 1);
+    let word = std::num::wrapping_add_usize((p - b'`') as usize, after);
+    digits(line, skip(line, colon, b' ', word), none)
 }

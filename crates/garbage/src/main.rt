@@ -4,62 +4,40 @@
 // hands out, the ends and the cursor that it hands back, and the words that it leaves, `same` if none changed. The
 // expected output was worked out from the paper that sets the rules, by a model of its own, and not from a run.
 mod args;
-mod audits;
-mod edits;
-mod iters;
+mod changes;
 mod line;
-mod lists;
 mod marks;
-mod names;
-mod places;
+mod plain;
 mod reads;
+mod run;
 mod show;
 mod show_pool;
-mod steps;
+mod values;
 
-use line::Line;
-
-// A case, once its line has ended.
-fn run(l: Line) {
-    let a = l.numbers;
-    let kind = l.kind;
-    match kind {
-        b'n' => names::every(a),
-        b's' => steps::every(a),
-        b'e' => edits::every(a),
-        b'f' => edits::few(a),
-        b'l' => lists::every(a),
-        b'm' => marks::every(a),
-        b'd' => audits::every(a),
-        b'p' => places::beside(a),
-        b'a' => places::alone(a),
-        b'i' => iters::every(a),
-        b'r' => reads::every(a),
-        b'#' => show::text(b""),
-        _ => show::text(b"  no such case\n"),
+// A case, if a line ends here. Where the next line begins is handed back.
+fn ended(input: &[u8], from: usize, i: usize) -> usize {
+    if line::byte(input, i) != b'\n' {
+        return from;
     }
-}
-
-fn byte(l: Line, b: u8) -> Line {
-    show::one(b);
-    if b == b'\n' {
-        run(l.end());
-        return Line::new();
-    }
-    l.feed(b)
+    let to = std::num::wrapping_add_usize(i, 1);
+    let case = line::part(input, from, to);
+    io::write_all(1, case);
+    run::run(case);
+    to
 }
 
 fn cases(input: &[u8]) {
-    let mut l = Line::new();
+    let mut from = 0;
     let mut i = 0;
     while i < input.len() {
-        l = byte(l, input[i]);
+        from = ended(input, from, i);
         i += 1;
     }
 }
 
+// What takes no argument is tried first.
 fn main() {
-    names::made();
+    run::run(b"0");
     let mut buf = io::large_buffer();
     let n = io::read_full(0, &mut buf);
     cases(&buf[..n]);

@@ -1,53 +1,82 @@
-// The step of one list, which sets a mark of its own, on marks of any value; then all marks are taken away.
+// The calls that are lent marks: walk and clear, the step of one list, the audit over two slices; from 54 of the table.
 use crate::args;
-use crate::show;
-use crate::show_pool;
-use standing::ends::Ends;
+use crate::args::Args;
+use crate::line;
+use crate::line::number;
+use crate::values;
+use ends::Ends;
 
-fn step(words: &[u32], marks: &mut [u8], ends: Ends, mark: u8) {
-    let r = walk::step::walk_list(words, marks, ends, mark);
-    show::text(b"  walk_list");
-    show::flag(r.ok);
-    show::number(r.count);
-    show::bar();
-    show_pool::marks(marks);
-    walk::marks::zero_marks(marks);
-    show::text(b"\n  zero_marks");
-    show_pool::marks(marks);
-    show::end_line();
-}
-
-// The step on the first n words of a pool and the first m marks.
-fn on(words: &[u32], n: usize, marks: &mut [u8], m: usize, ends: Ends, mark: u8) {
-    if n <= words.len() {
-        if m <= marks.len() {
-            step(&words[0..n], &mut marks[0..m], ends, mark);
-        }
+// The walk; the step of one list, which sets a mark of its own, on marks of any value; all marks taken away.
+fn walked(code: usize, words: &[u32], marks: &mut [u8], e: Ends, mark: u32) -> [u32; 11] {
+    if code == 54 {
+        let r = walk::walk::walk(words, marks, e);
+        let t = r.answer;
+        return [t.number(), r.count, 0, 0, 0, 0, 0, 0, 0, 0, 0];
     }
+    if code == 56 {
+        let r = walk::step::walk_list(words, marks, e, (mark % 256) as u8);
+        return [r.ok as u32, r.count, 0, 0, 0, 0, 0, 0, 0, 0, 0];
+    }
+    walk::marks::zero_marks(marks);
+    [0; 11]
 }
 
-fn mark(x: u64) -> u8 {
-    (x % 256) as u8
-}
-
-fn of(a: [u64; 8]) -> [u8; 8] {
+fn clear(words: &mut [u32], marks: &mut [u8], e: Ends) -> [u32; 11] {
+    let r = walk::clear::clear(words, marks, e);
+    let t = r.answer;
+    let f = t.node();
     [
-        mark(a[0]),
-        mark(a[1]),
-        mark(a[2]),
-        mark(a[3]),
-        mark(a[4]),
-        mark(a[5]),
-        mark(a[6]),
-        mark(a[7]),
+        t.number(),
+        values::node(f, 0),
+        values::node(f, 1),
+        r.ends.head.0,
+        r.ends.tail.0,
+        0,
+        0,
+        0,
+        0,
+        0,
+        0,
     ]
 }
 
-// Numbers: nodes; head, tail; mark; how many marks there are, of the eight that follow; words.
-pub(crate) fn every(a: [u64; 32]) {
-    let words = args::pool(args::eight(a, 13));
-    let ends = args::pair(a[1], a[2]);
-    let m = a[4] as usize;
-    let mut marks = of(args::eight(a, 5));
-    on(&words, a[0] as usize, &mut marks, m, ends, mark(a[3]));
+// The audit; then the nodes are counted again by the marks.
+fn audited(line: &[u8], words: &[u32], marks: &mut [u8]) -> [u32; 11] {
+    let heads = args::words(line, line::CURRENT, 2, 4, 0);
+    let tails = args::words(line, line::PREV, 2, 4, 0);
+    let r = audit::audit(
+        words,
+        args::first(&heads, number(line, line::HEAD, 0, 1)),
+        args::first(&tails, number(line, line::TAIL, 0, 1)),
+        marks,
+    );
+    let c = audit::count::count_nodes(words, marks);
+    let t = r.answer;
+    [
+        t.number(),
+        r.list,
+        r.on_lists,
+        r.stranded,
+        c.on_lists,
+        c.stranded,
+        0,
+        0,
+        0,
+        0,
+        0,
+    ]
+}
+
+pub(crate) fn call(
+    code: usize,
+    line: &[u8],
+    a: Args,
+    words: &mut [u32],
+    marks: &mut [u8],
+) -> [u32; 11] {
+    match code {
+        55 => clear(words, marks, a.ends),
+        58 => audited(line, words, marks),
+        _ => walked(code, words, marks, a.ends, a.node.0),
+    }
 }

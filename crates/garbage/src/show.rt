@@ -1,119 +1,94 @@
-// Printing: what a call answers and what it hands back, in short text on standard output.
-use cursor::cursor::Cursor;
-use cursor::cursor::Edited;
-use cursor::cursor::Parted;
-use list::list::Listed;
-use standing::answer::Answer;
-use standing::ends::Ends;
-use words::names::Found;
-use words::names::Name;
-
-pub(crate) fn text(s: &[u8]) {
-    io::write_all(1, s);
-}
+// Printing: what a call hands back, by a line that says how, in short text on standard output.
+use crate::show_pool;
 
 pub(crate) fn one(b: u8) {
     let a = [b];
-    text(&a);
-}
-
-pub(crate) fn end_line() {
-    text(b"\n");
+    io::write_all(1, &a);
 }
 
 // A number after a blank.
 pub(crate) fn number(n: u32) {
-    text(b" ");
+    one(b' ');
     io::print_decimal(1, n as u64);
 }
 
-// A byte as a number after a blank.
-pub(crate) fn byte(b: u8) {
-    number(b as u32);
-}
-
-// A length after a blank.
-pub(crate) fn length(n: usize) {
-    text(b" ");
-    io::print_decimal(1, n as u64);
-}
-
-pub(crate) fn flag(b: bool) {
-    if b {
-        text(b" yes");
+fn flag(n: u32) {
+    one(b' ');
+    if n == 0 {
+        one(b'n');
+        one(b'o');
     } else {
-        text(b" no");
+        one(b'y');
+        one(b'e');
+        one(b's');
     }
 }
 
-pub(crate) fn name(w: Name) {
-    number(w.0);
-}
-
-// A node's number, or a dash for none.
-pub(crate) fn found(f: Found) {
-    match f {
-        Found::At(node) => number(node.0),
-        Found::Nothing => text(b" -"),
+// A number that is given twice. If there is none, the two differ, and a dash is shown, or nothing.
+fn found(b: u8, n: u32, again: u32) {
+    if n == again {
+        number(n);
+    } else if b == b'@' {
+        one(b' ');
+        one(b'-');
     }
 }
 
-// The number that is answered, and the node handed out.
-pub(crate) fn answer(a: Answer) {
-    number(a.number());
-    found(a.node());
+// An item of a line, from the next two of the values. How many it takes is handed back.
+fn item(b: u8, n: u32, next: u32, case: &[u8], words: &[u32], marks: &[u8]) -> usize {
+    match b {
+        b'#' => {
+            number(n);
+            1
+        }
+        b'?' => {
+            flag(n);
+            1
+        }
+        b'@' | b'+' => {
+            found(b, n, next);
+            2
+        }
+        b'=' => {
+            show_pool::left(case, words);
+            0
+        }
+        b'%' => {
+            show_pool::marks(marks);
+            0
+        }
+        b'/' => {
+            one(b'\n');
+            0
+        }
+        b'\n' => 0,
+        _ => {
+            one(b);
+            0
+        }
+    }
 }
 
-pub(crate) fn bar() {
-    text(b" |");
+fn value(v: &[u32], i: usize) -> u32 {
+    if i < v.len() {
+        return v[i];
+    }
+    0
 }
 
-pub(crate) fn pair(e: Ends) {
-    number(e.head.0);
-    number(e.tail.0);
-}
-
-pub(crate) fn place(c: Cursor) {
-    number(c.current.0);
-    number(c.prev.0);
-    number(c.next.0);
-}
-
-// What a call on one list at a cursor hands back.
-pub(crate) fn edited(label: &[u8], r: Edited) {
-    let a = r.answer;
-    let e = r.ends;
-    let c = r.cursor;
-    text(label);
-    answer(a);
-    bar();
-    pair(e);
-    bar();
-    place(c);
-}
-
-// What a call on two lists hands back; the other list's ends come last.
-pub(crate) fn parted(label: &[u8], r: Parted) {
-    let a = r.answer;
-    let e = r.ends;
-    let c = r.cursor;
-    let o = r.other;
-    text(label);
-    answer(a);
-    bar();
-    pair(e);
-    bar();
-    place(c);
-    bar();
-    pair(o);
-}
-
-// What a call on a list hands back.
-pub(crate) fn listed(label: &[u8], r: Listed) {
-    let a = r.answer;
-    let e = r.ends;
-    text(label);
-    answer(a);
-    bar();
-    pair(e);
+pub(crate) fn line(format: &[u8], v: &[u32], case: &[u8], words: &[u32], marks: &[u8]) {
+    let mut at = 0;
+    let mut i = 0;
+    while i < format.len() {
+        let taken = item(
+            format[i],
+            value(v, at),
+            value(v, at % 16 + 1),
+            case,
+            words,
+            marks,
+        );
+        at = std::num::wrapping_add_usize(at, taken);
+        i += 1;
+    }
 }

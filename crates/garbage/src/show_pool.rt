@@ -1,94 +1,61 @@
 // Printing of words and marks: all of them where they are eight at the most, else how many and a sum.
+use crate::args;
+use crate::line;
 use crate::show;
 
-// Whether two pools have the same words.
-fn same(a: &[u32], b: &[u32]) -> bool {
-    if a.len() != b.len() {
-        return false;
-    }
+// Whether a pool has the words of the case.
+fn same(case: &[u8], a: &[u32]) -> bool {
     let mut equal = true;
     let mut i = 0;
     while i < a.len() {
-        equal = equal & (a[i] == b[i]);
+        equal = equal & (args::word(case, line::FIRST_WORD, i, 1) == a[i]);
         i += 1;
     }
     equal
 }
 
-fn each_word(a: &[u32]) {
-    let mut i = 0;
-    while i < a.len() {
-        show::number(a[i]);
-        i += 1;
+// One of so many numbers; it is shown if they are few. The sum shows a changed number, and two that are exchanged.
+fn element(len: usize, sum: u64, x: u32) -> u64 {
+    if len <= 8 {
+        show::number(x);
     }
-}
-
-fn each_mark(a: &[u8]) {
-    let mut i = 0;
-    while i < a.len() {
-        show::byte(a[i]);
-        i += 1;
-    }
-}
-
-// A sum that shows a changed number, and two that are exchanged.
-fn add(sum: u64, x: u32) -> u64 {
     (sum % 1000003 * 31 + x as u64) % 1000003
 }
 
-fn word_sum(a: &[u32]) -> u64 {
+fn end(len: usize, sum: u64) {
+    if 8 < len {
+        show::one(b' ');
+        io::print_decimal(1, len as u64);
+        io::write_all(1, b" in all, sum ");
+        io::print_decimal(1, sum);
+    }
+}
+
+fn words(a: &[u32]) {
     let mut sum = 0;
     let mut i = 0;
     while i < a.len() {
-        sum = add(sum, a[i]);
+        sum = element(a.len(), sum, a[i]);
         i += 1;
     }
-    sum
-}
-
-fn wide(x: u8) -> u32 {
-    x as u32
-}
-
-fn mark_sum(a: &[u8]) -> u64 {
-    let mut sum = 0;
-    let mut i = 0;
-    while i < a.len() {
-        sum = add(sum, wide(a[i]));
-        i += 1;
-    }
-    sum
-}
-
-fn many(len: usize, sum: u64) {
-    show::length(len);
-    show::text(b" in all, sum ");
-    io::print_decimal(1, sum);
-}
-
-pub(crate) fn words(a: &[u32]) {
-    if a.len() <= 8 {
-        each_word(a);
-    } else {
-        many(a.len(), word_sum(a));
-    }
+    end(a.len(), sum);
 }
 
 pub(crate) fn marks(a: &[u8]) {
-    if a.len() <= 8 {
-        each_mark(a);
-    } else {
-        many(a.len(), mark_sum(a));
+    let mut sum = 0;
+    let mut i = 0;
+    while i < a.len() {
+        sum = element(a.len(), sum, line::byte(a, i) as u32);
+        i += 1;
     }
+    end(a.len(), sum);
 }
 
-// The words that a call leaves, and the end of its line.
-pub(crate) fn left(before: &[u32], after: &[u32]) {
-    if same(before, after) {
-        show::text(b" | same");
+// The words that a call leaves.
+pub(crate) fn left(case: &[u8], a: &[u32]) {
+    if same(case, a) {
+        io::write_all(1, b" same");
     } else {
-        show::bar();
-        words(after);
+        words(a);
     }
-    show::end_line();
 }

@@ -5,12 +5,12 @@ use mathlib.Core.Bool.{Bool, true, false, _&&_, cond}
 use mathlib.Core.List.{List, [], _∷_, _++_, reverse}
 use lib.Dec.{ltb, eqb}
 use lib.ListN.{length, getD, set, replicate}
-use Rattle.standing.specs.declared.answer.Refusal.the-variants.{NoSuchList, SameList, NotEmpty, Malformed}
-use Rattle.standing.specs.declared.answer.Answer.{Answer}
-use Rattle.standing.specs.declared.answer.Answer.the-variants.{Done, Refused}
-use Rattle.standing.specs.Answer.{answerNumber, handed, isRefused}
+use Rattle.answers.specs.declared.Refusal.the-variants.{NoSuchList, SameList, NotEmpty, Malformed}
+use Rattle.answers.specs.declared.Answer.{Answer}
+use Rattle.answers.specs.declared.Answer.the-variants.{Done, Refused}
+use Rattle.answers.specs.Answer.{answerNumber, handed, isRefused}
 use Rattle.cursor.specs.Plain.{Place, at, atNull, nodes, nextPlace, prevPlace}
-use Rattle.edit.specs.Plain.{Plain}
+use Rattle.cursor.specs.Does.{Plain}
 use Rattle.insert.specs.Plain.{plainInsertAfter, plainInsertBefore}
 use Rattle.remove.specs.Plain.{plainRemove, plainReplace}
 use Rattle.splice.specs.Plain.{PlainTwo, plainSpliceAfter, plainSpliceBefore}
@@ -21,8 +21,9 @@ use Rattle.lines.specs.declared.line.Order.{Order}
 use Rattle.lines.specs.declared.line.Parsed.{Parsed}
 use Rattle.lines.specs.declared.line.Parsed.the-variants.{Right, Malformed as Wrong}
 use Rattle.lines.specs.Lines.{usesOther}
-use Rattle.desk.specs.declared.desk.Reply.{Reply}
-use Rattle.desk.specs.Reply.{reply, noNode, shown, replyUnread}
+use Rattle.lines.specs.declared.answer.Reply.{Reply}
+use Rattle.lines.specs.Answers.{reply}
+use Rattle.desk.specs.Reply.{noNode, shown, replyUnread}
 
 pub record History : Type 0 where
   pub places : List Place
@@ -63,40 +64,40 @@ size (z ∷ zs) = length (nodes z) + size zs
 -- ---- one command
 
 -- What a command gives: the answer, the place on the named list, the place on the other, and what is stranded.
-pub record Turn : Type 0 where
+pub record PlainWorked : Type 0 where
   pub answer : Answer
   pub named : Place
   pub other : Place
   pub stranded : List ℕ
 
-abbrev pub turn : Answer → Place → Place → List ℕ → Turn
-turn a z y st = record { answer = a; named = z; other = y; stranded = st }
+abbrev pub plainWorked : Answer → Place → Place → List ℕ → PlainWorked
+plainWorked a z y st = record { answer = a; named = z; other = y; stranded = st }
 
 -- At null of the new sequence; refused, the place as it was.
 abbrev pub settled : Answer → Place → List ℕ → Place
 settled a z xs = cond (isRefused a) z (atNull xs)
 
 -- An edit at the place; an edit of the list, whose cursor becomes null; and one of two lists, where the other's does.
-unfoldable pub atPlace : Plain → Place → List ℕ → Turn
-atPlace d y st = turn (d .answer) (d .place) y st
+unfoldable pub atPlace : Plain → Place → List ℕ → PlainWorked
+atPlace d y st = plainWorked (d .answer) (d .place) y st
 
-unfoldable pub onSequence : PlainList → Place → Place → List ℕ → Turn
-onSequence d z y st = turn (d .answer) (settled (d .answer) z (d .nodes)) y st
+unfoldable pub onSequence : PlainList → Place → Place → List ℕ → PlainWorked
+onSequence d z y st = plainWorked (d .answer) (settled (d .answer) z (d .nodes)) y st
 
-unfoldable pub onTwo : PlainTwo → Place → List ℕ → Turn
-onTwo d y st = turn (d .answer) (d .place) (settled (d .answer) y (d .other)) st
+unfoldable pub onTwo : PlainTwo → Place → List ℕ → PlainWorked
+onTwo d y st = plainWorked (d .answer) (d .place) (settled (d .answer) y (d .other)) st
 
 -- Take: everything moves to the other list, 6 unless it is empty.
 abbrev pub isNone : List ℕ → Bool
 isNone [] = true
 isNone (x ∷ xs) = false
 
-unfoldable pub plainTake : Place → Place → List ℕ → Turn
-plainTake z y st = cond (isNone (nodes y)) (turn Done (atNull []) (atNull (nodes z)) st) (turn (Refused NotEmpty) z y st)
+unfoldable pub plainTake : Place → Place → List ℕ → PlainWorked
+plainTake z y st = cond (isNone (nodes y)) (plainWorked Done (atNull []) (atNull (nodes z)) st) (plainWorked (Refused NotEmpty) z y st)
 
 -- The command with this code, at z, with y on the other list and the node i.
-unfoldable pub turnOf : ℕ → ℕ → History → Place → Place → ℕ → Turn
-turnOf code n h z y i =
+unfoldable pub plainByCode : ℕ → ℕ → History → Place → Place → ℕ → PlainWorked
+plainByCode code n h z y i =
     let st = h .stranded in
     cond (eqb code 1) (atPlace (plainInsertAfter n (isHeld h) i z) y st)
     (cond (eqb code 2) (atPlace (plainInsertBefore n (isHeld h) i z) y st)
@@ -106,52 +107,52 @@ turnOf code n h z y i =
     (cond (eqb code 6) (onTwo (plainSpliceBefore (nodes y) z) y st)
     (cond (eqb code 7) (onTwo (plainSplitAfter (nodes y) z) y st)
     (cond (eqb code 8) (onTwo (plainSplitBefore (nodes y) z) y st)
-    (cond (eqb code 9) (turn Done (nextPlace z) y st)
-    (cond (eqb code 10) (turn Done (prevPlace z) y st)
-    (cond (eqb code 11) (turn Done (atNull (reverse (nodes z))) y st)
+    (cond (eqb code 9) (plainWorked Done (nextPlace z) y st)
+    (cond (eqb code 10) (plainWorked Done (prevPlace z) y st)
+    (cond (eqb code 11) (plainWorked Done (atNull (reverse (nodes z))) y st)
     (cond (eqb code 12) (plainTake z y st)
-    (cond (eqb code 14) (turn Done (atNull []) y (nodes z ++ st))
-    (cond (eqb code 15) (turn Done (atNull (nodes z)) y st)
+    (cond (eqb code 14) (plainWorked Done (atNull []) y (nodes z ++ st))
+    (cond (eqb code 15) (plainWorked Done (atNull (nodes z)) y st)
     (cond (eqb code 16) (onSequence (plainPushFront n (isHeld h) i (nodes z)) z y st)
     (cond (eqb code 17) (onSequence (plainPushBack n (isHeld h) i (nodes z)) z y st)
     (cond (eqb code 18) (onSequence (plainPopFront (isHeld h) (nodes z)) z y st)
     (cond (eqb code 19) (onSequence (plainPopBack (isHeld h) (nodes z)) z y st)
-    (turn (Refused Malformed) z y st))))))))))))))))))
+    (plainWorked (Refused Malformed) z y st))))))))))))))))))
 
 -- 3 where both lists are used and are the same; else the command, clear being 0d.
-unfoldable pub obeyed : ℕ → History → Order → Place → Place → Turn
-obeyed n h o z y =
-    cond (eqb (o .code) 13) (turn Done (atNull []) y (h .stranded))
-    (cond (usesOther (o .code) && eqb (o .list) (o .other)) (turn (Refused SameList) z y (h .stranded))
-    (turnOf (o .code) n h z y (o .node)))
+unfoldable pub plainCommand : ℕ → History → Order → Place → Place → PlainWorked
+plainCommand n h o z y =
+    cond (eqb (o .code) 13) (plainWorked Done (atNull []) y (h .stranded))
+    (cond (usesOther (o .code) && eqb (o .list) (o .other)) (plainWorked (Refused SameList) z y (h .stranded))
+    (plainByCode (o .code) n h z y (o .node)))
 
 -- ---- one line
 
 -- What a line leaves: the history, and the answer.
-pub record Told : Type 0 where
+pub record PlainStepped : Type 0 where
   pub history : History
   pub reply : Reply
 
-abbrev pub told : History → Reply → Told
-told h a = record { history = h; reply = a }
+abbrev pub plainStepped : History → Reply → PlainStepped
+plainStepped h a = record { history = h; reply = a }
 
 -- The field for the node of a place.
 abbrev pub under : Place → ℕ
 under (at L x R) = x
 under (atNull xs) = noNode
 
-unfoldable pub replyFor : Turn → Reply
-replyFor t = reply (answerNumber (t .answer)) (under (t .named)) (shown (handed (t .answer)))
+unfoldable pub plainReplyTo : PlainWorked → Reply
+plainReplyTo t = reply (answerNumber (t .answer)) (under (t .named)) (shown (handed (t .answer)))
 
 -- The other list's place goes back first, and then the named one's.
-unfoldable pub after : History → Order → Turn → Told
-after h o t = told (record { places = set (set (h .places) (o .other) (t .other)) (o .list) (t .named); stranded = t .stranded }) (replyFor t)
+unfoldable pub plainPutBack : History → Order → PlainWorked → PlainStepped
+plainPutBack h o t = plainStepped (record { places = set (set (h .places) (o .other) (t .other)) (o .list) (t .named); stranded = t .stranded }) (plainReplyTo t)
 
 -- One line: 11, the audit, 2, and then the command.
-abbrev pub tell : ℕ → History → Parsed → Told
-tell n h Wrong = told h (replyUnread Malformed)
-tell n h (Right o) =
+abbrev pub plainStep : ℕ → History → Parsed → PlainStepped
+plainStep n h Wrong = plainStepped h (replyUnread Malformed)
+plainStep n h (Right o) =
     let k = length (h .places) in
-    cond (eqb (o .code) 20) (told h (reply 0 (size (h .places)) (length (h .stranded))))
-    (cond (ltb (o .list) k && ltb (o .other) k) (after h o (obeyed n h o (placeAt h (o .list)) (placeAt h (o .other))))
-    (told h (replyUnread NoSuchList)))
+    cond (eqb (o .code) 20) (plainStepped h (reply 0 (size (h .places)) (length (h .stranded))))
+    (cond (ltb (o .list) k && ltb (o .other) k) (plainPutBack h o (plainCommand n h o (placeAt h (o .list)) (placeAt h (o .other))))
+    (plainStepped h (replyUnread NoSuchList)))

@@ -6,14 +6,14 @@ use Rattle.words.specs.declared.names.Node.{Node}
 use Rattle.words.specs.declared.names.Name.{Name}
 use Rattle.words.specs.Names.{isNull, naming}
 use Rattle.words.specs.Pool.{Outcome, outcome}
-use Rattle.words.specs.LinkOps.{linkBetween}
-use Rattle.standing.specs.declared.answer.Answer.the-variants.{Done}
-use Rattle.standing.specs.declared.ends.Ends.{Ends}
-use Rattle.standing.specs.Ends.{endsOf}
-use Rattle.cursor.specs.declared.cursor.Cursor.{Cursor}
-use Rattle.cursor.specs.declared.cursor.Edited.{Edited}
-use Rattle.cursor.specs.Cursor.{cursorOf, nullCursor, edited, nodeTest}
-use Rattle.edit.specs.Edits.{unlessRefused, acquiring}
+use Rattle.links.specs.XorOps.{linkBetween}
+use Rattle.answers.specs.declared.Answer.the-variants.{Done}
+use Rattle.ends.specs.declared.Ends.{Ends}
+use Rattle.ends.specs.Ends.{endsOf}
+use Rattle.cursor.specs.declared.Cursor.{Cursor}
+use Rattle.cursor.specs.declared.Edited.{Edited}
+use Rattle.cursor.specs.Cursor.{cursorOf, nullCursor, edited, nodeTest, acquireNode}
+use Rattle.cursor.specs.Edits.{unlessRefused}
 
 -- Beside current, which stays current; at null, at the front.
 unfoldable pub insertedAfter : List ℕ → Ends → Cursor → Name → Outcome Edited
@@ -35,8 +35,10 @@ insertedBefore ws e c new =
 
 unfoldable pub insertAfter : List ℕ → Ends → Cursor → Node → Outcome Edited
 insertAfter ws e c i =
-    unlessRefused (nodeTest ws e c i) ws e c (acquiring ws e c (naming i) (λ ws1. insertedAfter ws1 e c (naming i)))
+    let t = acquireNode ws (nodeTest ws e c i) (naming i) in
+    unlessRefused (t .result) (t .words) e c (insertedAfter (t .words) e c (naming i))
 
 unfoldable pub insertBefore : List ℕ → Ends → Cursor → Node → Outcome Edited
 insertBefore ws e c i =
-    unlessRefused (nodeTest ws e c i) ws e c (acquiring ws e c (naming i) (λ ws1. insertedBefore ws1 e c (naming i)))
+    let t = acquireNode ws (nodeTest ws e c i) (naming i) in
+    unlessRefused (t .result) (t .words) e c (insertedBefore (t .words) e c (naming i))

@@ -2,10 +2,10 @@
 use Prim.Native.Nat.{ℕ}
 use mathlib.Core.Bool.{Bool, cond}
 use mathlib.Core.List.{[], _∷_, _++_}
-use Rattle.standing.specs.declared.answer.Answer.the-variants.{Done}
-use Rattle.standing.specs.Answer.{isRefused}
+use Rattle.answers.specs.declared.Answer.the-variants.{Done}
+use Rattle.answers.specs.Answer.{isRefused}
 use Rattle.cursor.specs.Plain.{Place, at, atNull}
-use Rattle.edit.specs.Plain.{Plain, plain, linking, freeTest}
+use Rattle.cursor.specs.Does.{Plain, plain, linking, freeTest}
 
 -- Beside the node of the place, which stays; at null, at the front, and at the back.
 abbrev pub placeAfter : ℕ → Place → Place

@@ -1,16 +1,16 @@
 -- The iterator (document 01, 'Edits').
 use Prim.Native.Nat.{ℕ}
-use mathlib.Core.Bool.{Bool, cond}
+use mathlib.Core.Bool.{cond}
 use mathlib.Core.List.{List}
 use lib.Dec.{eqb}
 use lib.ListN.{length}
 use Rattle.words.specs.Names.{null, isNull, isName, poolFits, decoding}
-use Rattle.words.specs.LinkOps.{nextOf}
-use Rattle.standing.specs.declared.answer.Refusal.the-variants.{Size, NoListing}
-use Rattle.standing.specs.declared.answer.Answer.{Answer}
-use Rattle.standing.specs.declared.answer.Answer.the-variants.{Done, Refused}
-use Rattle.standing.specs.declared.ends.Ends.{Ends}
-use Rattle.standing.specs.Answer.{handing}
+use Rattle.links.specs.XorOps.{nextOf}
+use Rattle.answers.specs.declared.Refusal.the-variants.{Size, NoListing}
+use Rattle.answers.specs.declared.Answer.{Answer}
+use Rattle.answers.specs.declared.Answer.the-variants.{Done, Refused}
+use Rattle.ends.specs.declared.Ends.{Ends}
+use Rattle.answers.specs.Answer.{handing}
 use Rattle.iter.specs.declared.Iter.{Iter}
 use Rattle.iter.specs.declared.Stepped.{Stepped}
 

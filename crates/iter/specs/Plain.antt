@@ -2,8 +2,8 @@
 use Prim.Native.Nat.{ℕ}
 use mathlib.Core.Bool.{Bool, true, false}
 use mathlib.Core.List.{List, [], _∷_, reverse}
-use Rattle.standing.specs.declared.answer.Answer.{Answer}
-use Rattle.standing.specs.declared.answer.Answer.the-variants.{Done, Handed}
+use Rattle.answers.specs.declared.Answer.{Answer}
+use Rattle.answers.specs.declared.Answer.the-variants.{Done, Handed}
 use Rattle.iter.specs.declared.Iter.{Iter}
 use Rattle.iter.specs.Iter.{next, nextBack}
 

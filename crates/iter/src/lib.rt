@@ -1,8 +1,8 @@
 // `Iter`: four words by value, stepping from both ends until they meet.
-use links::link_ops::LinkOps;
-use standing::answer::Answer;
-use standing::answer::Refusal;
-use standing::ends::Ends;
+use answers::Answer;
+use answers::Refusal;
+use ends::Ends;
+use links::xor_ops::XorLinkedListOps;
 use words::names::Name;
 ghost use mathlib.Core.Path.{_≡_};
 ghost use Rattle.iter.specs.Iter.{iterOf, over, nextBack};
@@ -82,7 +82,7 @@ impl Iter {
                 iter: Iter::ended(),
             };
         }
-        let next = LinkOps::next(words, head, prev_head);
+        let next = XorLinkedListOps::next(words, head, prev_head);
         if !next.in_range(n) {
             return Stepped {
                 answer: Answer::Refused(Refusal::NoListing),

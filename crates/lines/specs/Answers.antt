@@ -4,6 +4,11 @@ use mathlib.Core.Bool.{cond}
 use mathlib.Core.List.{List, [], _∷_, _++_}
 use lib.Dec.{ltb, leb}
 use lib.ListN.{length, drop}
+use Rattle.lines.specs.declared.answer.Reply.{Reply}
+
+-- An answer: its number and its two fields.
+abbrev pub reply : ℕ → ℕ → ℕ → Reply
+reply a f s = record { number = a; first = f; second = s }
 
 -- The digit of a number below 16.
 unfoldable pub hexOf : ℕ → ℕ

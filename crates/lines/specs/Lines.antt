@@ -1,5 +1,5 @@
 -- Command lines (document 01, 'Command lines'): ten lower-case hexadecimal digits, for command, list, other list and node.
-use Prim.Native.Nat.{ℕ, _+_, _*_, _/_, _%_, _-_, _^_}
+use Prim.Native.Nat.{ℕ, _+_, _*_, _/_, _%_, _-_}
 use mathlib.Core.Bool.{Bool, true, _&&_, _||_, not, cond}
 use mathlib.Core.List.{List, [], _∷_}
 use lib.Dec.{ltb, leb, eqb}

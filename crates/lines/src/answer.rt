@@ -2,6 +2,13 @@
 ghost use mathlib.Core.Path.{_≡_};
 ghost use Rattle.lines.specs.Answers.{hexOf, putAnswer};
 
+// The answer to a line: its number and its two fields.
+pub struct Reply {
+    pub number: u32,
+    pub first: u32,
+    pub second: u32,
+}
+
 // The lower-case hexadecimal digit of a number below 16; what is above counts by its remainder.
 pub fn hex(n: u32) -> u8
     ensures { λ r. ⌜ r ≡ hexOf n ⌝ }

@@ -1,1 +1,2 @@
--- The proof of each function. The laws of their definitions are those of the crate `words`.
+-- What is proved of the links of a xor list, beside the proof of each function.
+pub mod Laws

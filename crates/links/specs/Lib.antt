@@ -1,1 +1,2 @@
--- What must be believed of links is in the specs of the crate `words`: Names, Pool and LinkOps.
+-- What must be believed of the links of a xor list.
+pub mod XorOps

@@ -1,4 +1,3 @@
-// Links: a packed word of the pool, the word steps that every list edit is made of, and the two that join lists.
-// What each step does is in the definitions of the crate `words`, for every slice and every number.
+// Links of the xor list: the steps that trade and set neighbours, and the two that join lists.
 pub mod between;
-pub mod link_ops;
+pub mod xor_ops;

@@ -4,16 +4,17 @@ use mathlib.Core.Path.{_≡_}
 use mathlib.Core.Bool.{Bool}
 use mathlib.Core.List.{List}
 use lib.Bits.{bitXor}
-use lib.ListN.{length, getD}
+use lib.ListN.{getD}
 use Rattle.words.specs.Names.{isLinked}
 use Rattle.words.specs.Pool.{Outcome}
-use Rattle.words.specs.Listing.{Off, Apart, Listing}
-use Rattle.standing.specs.declared.answer.Answer.{Answer}
+use Rattle.words.specs.Listing.{Listing}
+use Rattle.answers.specs.declared.Answer.{Answer}
 use Rattle.cursor.specs.Plain.{atNull, nodes, nextPlace, prevPlace}
-use Rattle.edit.specs.Plain.{Plain}
+use Rattle.cursor.specs.Alone.{LeavesAlone}
+use Rattle.cursor.specs.Does.{Plain}
 use Rattle.insert.specs.Plain.{plainInsertAfter, plainInsertBefore}
 use Rattle.remove.specs.Plain.{plainRemove}
-use Rattle.list.specs.declared.list.Listed.{Listed}
+use Rattle.list.specs.declared.ListEdited.{ListEdited}
 
 -- What a plain edit of a list gives: the answer, the sequence, and which nodes are linked.
 pub record PlainList : Type 0 where
@@ -40,10 +41,8 @@ abbrev pub plainPopBack : (ℕ → Bool) → List ℕ → PlainList
 plainPopBack linked xs = asList (plainRemove linked (prevPlace (atNull xs)))
 
 -- What is promised of a call on a list with a listing, against its plain edit, as for a call at a cursor.
-pub record DoesList (ws : List ℕ) (xs : List ℕ) (o : Outcome Listed) (d : PlainList) : Type 0 where
-  pub answer : o .answer .answer ≡ d .answer
-  pub listing : Listing bitXor (o .words) (o .answer .ends .head .0) (o .answer .ends .tail .0) (d .nodes)
+pub record DoesList (ws : List ℕ) (xs : List ℕ) (o : Outcome ListEdited) (d : PlainList) : Type 0 where
+  pub answer : o .result .answer ≡ d .answer
+  pub listing : Listing bitXor (o .words) (o .result .ends .head .0) (o .result .ends .tail .0) (d .nodes)
   pub marks : (j : ℕ) → isLinked (getD (o .words) j 0) ≡ d .linked j
-  pub others : (h t : ℕ) (ys : List ℕ) → Listing bitXor ws h t ys → Apart ys xs → Listing bitXor (o .words) h t ys
-  pub kept : (j : ℕ) → Off j xs → Off j (d .nodes) → getD (o .words) j 0 ≡ getD ws j 0
-  pub long : length (o .words) ≡ length ws
+  pub alone : LeavesAlone ws (o .words) xs (d .nodes)

@@ -1,10 +1,10 @@
 // Moves and peeks: to the neighbour, past the end to null, from null to the head or the tail. Each consumes the cursor and
 // hands it back, with the ends and the answer. A refused call changes nothing.
-use cursor::cursor::Cursor;
-use cursor::cursor::Edited;
-use links::link_ops::LinkOps;
-use standing::answer::Answer;
-use standing::ends::Ends;
+use answers::Answer;
+use cursor::Cursor;
+use cursor::Edited;
+use ends::Ends;
+use links::xor_ops::XorLinkedListOps;
 ghost use mathlib.Core.Path.{_≡_};
 ghost use Rattle.moves.specs.Moves.{movedNext, movedPrev, moveNext, movePrev};
 
@@ -17,7 +17,7 @@ pub fn next_place(cursor: Cursor, words: &[u32], ends: Ends) -> Cursor
     if current.is_null() {
         return Cursor::null(ends);
     }
-    Cursor::new(current, prev, LinkOps::next(words, current, prev))
+    Cursor::new(current, prev, XorLinkedListOps::next(words, current, prev))
 }
 
 // The cursor one node back, with no test.
@@ -29,7 +29,7 @@ pub fn prev_place(cursor: Cursor, words: &[u32], ends: Ends) -> Cursor
     if current.is_null() {
         return Cursor::null(ends);
     }
-    Cursor::new(current, LinkOps::prev(words, current, next), next)
+    Cursor::new(current, XorLinkedListOps::prev(words, current, next), next)
 }
 
 pub fn move_next(cursor: Cursor, words: &[u32], ends: Ends) -> Edited
@@ -37,18 +37,10 @@ pub fn move_next(cursor: Cursor, words: &[u32], ends: Ends) -> Edited
 {
     let t = cursor.stand_test(words, ends);
     if t.is_refused() {
-        return Edited {
-            answer: t,
-            ends: ends,
-            cursor: cursor,
-        };
+        return Edited::new(t, ends, cursor);
     }
     let moved = next_place(cursor, words, ends);
-    Edited {
-        answer: Answer::Done,
-        ends: ends,
-        cursor: moved,
-    }
+    Edited::new(Answer::Done, ends, moved)
 }
 
 pub fn move_prev(cursor: Cursor, words: &[u32], ends: Ends) -> Edited
@@ -56,18 +48,10 @@ pub fn move_prev(cursor: Cursor, words: &[u32], ends: Ends) -> Edited
 {
     let t = cursor.stand_test(words, ends);
     if t.is_refused() {
-        return Edited {
-            answer: t,
-            ends: ends,
-            cursor: cursor,
-        };
+        return Edited::new(t, ends, cursor);
     }
     let moved = prev_place(cursor, words, ends);
-    Edited {
-        answer: Answer::Done,
-        ends: ends,
-        cursor: moved,
-    }
+    Edited::new(Answer::Done, ends, moved)
 }
 
 // A cursor at the next node. The cursor is a value, so that its owner still has it: a peek is a move of the copy.

@@ -9,15 +9,15 @@ use Rattle.words.specs.declared.names.Name.{Name}
 use Rattle.words.specs.declared.names.Found.{Found}
 use Rattle.words.specs.declared.names.Found.the-variants.{At, Nothing}
 use Rattle.words.specs.Names.{null, naming}
-use Rattle.words.specs.LinkOps.{nextOf, prevOf}
-use Rattle.standing.specs.declared.answer.Refusal.the-variants.{CursorDoesNotStand, NoSuchNode}
-use Rattle.standing.specs.declared.answer.Answer.{Answer}
-use Rattle.standing.specs.declared.answer.Answer.the-variants.{Done, Refused}
-use Rattle.standing.specs.declared.ends.Ends.{Ends}
-use Rattle.standing.specs.Answer.{need, andThen, isRefused}
-use Rattle.standing.specs.Tests.{endsTest}
-use Rattle.cursor.specs.declared.cursor.Cursor.{Cursor}
-use Rattle.cursor.specs.declared.cursor.Edited.{Edited}
+use Rattle.links.specs.XorOps.{nextOf, prevOf}
+use Rattle.answers.specs.declared.Refusal.the-variants.{CursorDoesNotStand, NoSuchNode}
+use Rattle.answers.specs.declared.Answer.{Answer}
+use Rattle.answers.specs.declared.Answer.the-variants.{Done, Refused}
+use Rattle.ends.specs.declared.Ends.{Ends}
+use Rattle.answers.specs.Answer.{need, andThen, isRefused}
+use Rattle.ends.specs.Tests.{endsTest}
+use Rattle.cursor.specs.declared.Cursor.{Cursor}
+use Rattle.cursor.specs.declared.Edited.{Edited}
 use Rattle.cursor.specs.Cursor.{cursorOf, nullCursor, cursorStands, edited}
 
 -- The name of a claimed neighbour, null for none.

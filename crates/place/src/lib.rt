@@ -1,10 +1,10 @@
 // Places by node and claimed neighbour: `cursor_from_ptr_and_prev` and `cursor_from_ptr_and_next`.
-use cursor::cursor::Cursor;
-use cursor::cursor::Edited;
-use links::link_ops::LinkOps;
-use standing::answer::Answer;
-use standing::answer::Refusal;
-use standing::ends::Ends;
+use answers::Answer;
+use answers::Refusal;
+use cursor::Cursor;
+use cursor::Edited;
+use ends::Ends;
+use links::xor_ops::XorLinkedListOps;
 use words::names::Found;
 use words::names::Name;
 use words::names::Node;
@@ -25,7 +25,7 @@ fn claimed_name(neighbour: Found) -> Name
 fn claim_test(words: &[u32], ends: Ends, node: Node, neighbour: Found) -> Answer
     ensures { λ r. ⌜ r ≡ claimTest (now (words .entry)) ends node neighbour ⌝ }
 {
-    let t = standing::tests::ends_test(words, ends);
+    let t = ends::tests::ends_test(words, ends);
     if t.is_refused() {
         return t;
     }
@@ -53,17 +53,10 @@ fn place(words: &[u32], ends: Ends, cursor: Cursor) -> Edited
     ensures { λ r. ⌜ r ≡ placed (now (words .entry)) ends cursor ⌝ }
 {
     if !cursor.stands(words, ends) {
-        return Edited {
-            answer: Answer::Refused(Refusal::CursorDoesNotStand),
-            ends: ends,
-            cursor: Cursor::null(ends),
-        };
+        let refused = Answer::Refused(Refusal::CursorDoesNotStand);
+        return Edited::new(refused, ends, Cursor::null(ends));
     }
-    Edited {
-        answer: Answer::Done,
-        ends: ends,
-        cursor: cursor,
-    }
+    Edited::new(Answer::Done, ends, cursor)
 }
 
 // The cursor at a node, from the node said to come before it.
@@ -72,15 +65,11 @@ pub fn cursor_from_ptr_and_prev(words: &[u32], ends: Ends, node: Node, prev: Fou
 {
     let t = claim_test(words, ends, node, prev);
     if t.is_refused() {
-        return Edited {
-            answer: t,
-            ends: ends,
-            cursor: Cursor::null(ends),
-        };
+        return Edited::new(t, ends, Cursor::null(ends));
     }
     let current = node.to_name();
     let p = claimed_name(prev);
-    let next = LinkOps::next(words, current, p);
+    let next = XorLinkedListOps::next(words, current, p);
     place(words, ends, Cursor::new(current, p, next))
 }
 
@@ -90,14 +79,10 @@ pub fn cursor_from_ptr_and_next(words: &[u32], ends: Ends, node: Node, next: Fou
 {
     let t = claim_test(words, ends, node, next);
     if t.is_refused() {
-        return Edited {
-            answer: t,
-            ends: ends,
-            cursor: Cursor::null(ends),
-        };
+        return Edited::new(t, ends, Cursor::null(ends));
     }
     let current = node.to_name();
     let q = claimed_name(next);
-    let prev = LinkOps::prev(words, current, q);
+    let prev = XorLinkedListOps::prev(words, current, q);
     place(words, ends, Cursor::new(current, prev, q))
 }

@@ -1,5 +1,4 @@
 -- Demand 2 is kept. Assumes nothing.
-use mathlib.Core.Path.{_≡_}
 use Rattle.moves.proofs.Laws.Moves.{move-next-does, move-prev-does}
 use Rattle.insert.proofs.Laws.Insert.{insert-after-does}
 use Rattle.insert.proofs.Laws.Mirror.{insert-before-does}

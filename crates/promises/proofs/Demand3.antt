@@ -1,7 +1,7 @@
 -- Demand 3 is kept. Assumes nothing.
-use mathlib.Core.Path.{_≡_, refl, sym, ap, _∙_}
+use mathlib.Core.Path.{_≡_, refl, _∙_}
 use mathlib.Core.Logic.{⊎-elim}
-use mathlib.Core.Bool.{Bool, true, false}
+use mathlib.Core.Bool.{false}
 use Prim.Native.Nat.{ℕ, _+_, _<_, _≤_}
 use native.Mathlib.Omega.{arith}
 use lib.Dec.{ltb}
@@ -9,15 +9,15 @@ use lib.ListN.{getD}
 use borrow.Author.Tests.{lt-ltb, le-ltb}
 use Rattle.words.specs.Names.{isLinked}
 use Rattle.words.proofs.Laws.Cases.{below-or-not}
-use Rattle.words.proofs.Laws.Listing.{xor-listing-reverse}
+use Rattle.links.proofs.Laws.XorListing.{xor-listing-reverse}
 use Rattle.lines.specs.declared.line.Parsed.{Parsed}
 use Rattle.lines.specs.Lines.{lineOf}
-use Rattle.desk.specs.declared.desk.Desk.{Desk}
-use Rattle.history.specs.History.{History, Told, times, onLists, held, isHeld, tell}
+use Rattle.desk.specs.Step.{Desk, DeskStepped}
+use Rattle.history.specs.History.{History, PlainStepped, times, onLists, held, isHeld}
 use Rattle.history.specs.Follows.{Agrees, Follows}
-use Rattle.history.specs.Runs.{Given, isForeign}
+use Rattle.history.specs.Runs.{neverAnswered}
 use Rattle.history.proofs.Laws.Runs.{each-line}
-use Rattle.history.proofs.Laws.Numbers.{never-foreign}
+use Rattle.history.proofs.Laws.Numbers.{never-answered}
 use Rattle.promises.specs.Demand3.{Whereabouts, unlinked, listed, stranded, AfterLine, Demand3}
 
 -- a node that is held at most once, and linked if it is held, is at one of three places
@@ -37,15 +37,15 @@ somewhere n d h g x r =
         (below-or-not 0 q))
         (below-or-not 0 p)
 
-promised : (n : ℕ) (d : Desk) (p : Parsed) (d' : Desk) (t : Told) → isForeign (t .reply .number) ≡ false → Follows n d p d' t → AfterLine n d p d' t
-promised n d p d' t own f =
+promised : (n : ℕ) (d : Desk) (p : Parsed) (s : DeskStepped) (t : PlainStepped) → neverAnswered (t .reply .number) ≡ false → Follows n d p s t → AfterLine n d p s t
+promised n d p s t own f =
     let g = f .agrees in
     record {
       lists = g .lists;
       forward = λ l r. g .sound l r .listing;
-      backward = λ l r. xor-listing-reverse (d' .words) _ _ _ (g .sound l r .listing);
+      backward = λ l r. xor-listing-reverse (s .desk .words) _ _ _ (g .sound l r .listing);
       cursors = λ l r. g .sound l r .place;
-      whereabouts = somewhere n d' (t .history) g;
+      whereabouts = somewhere n (s .desk) (t .history) g;
       words = f .afresh;
       few = f .few;
       none = f .none;
@@ -54,4 +54,4 @@ promised n d p d' t own f =
     }
 
 pub demand-3 : Demand3
-demand-3 n k f few gs m v mv = promised n _ _ _ _ (never-foreign n _ (lineOf (v .line))) (each-line n f k few gs m v mv)
+demand-3 n k f few gs m v mv = promised n _ _ _ _ (never-answered n _ (lineOf (v .line))) (each-line n f k few gs m v mv)

@@ -1,20 +1,21 @@
 -- The nine chains come out as document 01 says, by computation; and the cursor that stands there is false. Assumes nothing.
-use mathlib.Core.Path.{_≡_, refl, sym, ap, _∙_}
+use mathlib.Core.Path.{_≡_, refl, ap}
 use mathlib.Core.List.{List, [], _∷_, _++_, map}
-use Prim.Native.Nat.{ℕ, _+_, _*_}
+use Prim.Native.Nat.{ℕ, _+_}
 use native.Mathlib.Omega.{arith}
 use lib.Bits.{bitXor}
 use lib.Dec.{lit<}
 use lib.ListN.{length, getD, length-append}
 use Rattle.words.specs.Names.{name, poolLimit, poolFits, isName, isLinked, naming, decoding}
 use Rattle.words.specs.Pool.{wordAt, putAt}
-use Rattle.words.specs.LinkOps.{nextOf, linkedAt, acquireLink}
-use Rattle.words.specs.Listing.{front, back, Listing}
-use Rattle.words.proofs.Laws.Listing.{xor-listing-unique}
-use Rattle.standing.specs.Tests.{linkWith, endsHold, sideHolds, endsTest}
-use Rattle.standing.specs.Tests
-use Rattle.cursor.specs.Cursor.{standTest, nodeTest, someTest}
-use Rattle.cursor.specs.Plain.{Place, at, atNull, nodes, Sound}
+use Rattle.links.specs.XorOps.{nextOf}
+use Rattle.words.specs.LinkOps.{linkedAt, acquireLink}
+use Rattle.words.specs.Listing.{back, Listing}
+use Rattle.links.proofs.Laws.XorListing.{xor-listing-unique}
+use Rattle.ends.specs.Tests.{linkWith, endsHold, sideHolds, endsTest}
+use Rattle.ends.specs.Tests
+use Rattle.cursor.specs.Cursor.{standTest, nodeTest, someTest, acquireNode}
+use Rattle.cursor.specs.Plain.{Place, at, atNull, Sound}
 use Rattle.remove.specs.Removes.{replace, replaced}
 use Rattle.walk.specs.Marks.{isMarked, paint, sizesFit}
 use Rattle.walk.specs.Walk.{isFree, walkFrom, atTail, walkOf}
@@ -22,7 +23,7 @@ use Rattle.walk.specs.Calls.{verdict, walkAll}
 use Rattle.promises.specs.Nine.{Comes, tried, nine, expected, ends, cursor}
 
 pub all-nine : map {A = Rattle.promises.specs.Nine.Try} {B = Comes} tried nine ≡ expected
-unfolding poolLimit poolFits isName isLinked naming decoding wordAt putAt nextOf linkedAt acquireLink linkWith endsHold sideHolds endsTest Rattle.standing.specs.Tests.stands standTest nodeTest someTest replace replaced isMarked paint sizesFit isFree walkFrom atTail walkOf verdict walkAll
+unfolding poolLimit poolFits isName isLinked naming decoding wordAt putAt nextOf linkedAt acquireLink linkWith endsHold sideHolds endsTest Rattle.ends.specs.Tests.stands standTest nodeTest someTest acquireNode replace replaced isMarked paint sizesFit isFree walkFrom atTail walkOf verdict walkAll
 all-nine = refl
 
 -- ---- the cursor that stands there is at no place of the listing

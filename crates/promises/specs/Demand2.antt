@@ -1,6 +1,6 @@
 -- Demand 2: on a sound list with a true cursor, and for two lists that share no node, every call gives what the plain edit of
 -- the sequence gives: the answer with the node handed out, the nodes and their order, the cursor, the linked marks; and it
--- leaves every other list alone. `Sound`, `Does`, `DoesTwo` and `DoesList` say so in full.
+-- leaves every other list alone. `Sound`, `Does`, `DoesTwo`, `DoesList` and `LeavesAlone` say so in full.
 use Prim.Native.Nat.{ℕ}
 use mathlib.Core.Path.{_≡_}
 use mathlib.Core.Bool.{true}
@@ -8,18 +8,18 @@ use mathlib.Core.List.{List, [], _∷_, reverse}
 use lib.Bits.{bitXor}
 use lib.ListN.{length}
 use Rattle.words.specs.declared.names.Node.{Node}
-use Rattle.words.specs.Names.{poolFits}
+use Rattle.words.specs.Names.{poolFits, unlinkedMarker}
 use Rattle.words.specs.Pool.{outcome}
 use Rattle.words.specs.Listing.{Apart, Listing}
-use Rattle.standing.specs.declared.answer.Refusal.the-variants.{NotEmpty}
-use Rattle.standing.specs.declared.answer.Answer.the-variants.{Done, Refused}
-use Rattle.standing.specs.declared.ends.Ends.{Ends}
-use Rattle.standing.specs.Ends.{emptyEnds, turned}
-use Rattle.cursor.specs.declared.cursor.Cursor.{Cursor}
+use Rattle.answers.specs.declared.Refusal.the-variants.{NotEmpty}
+use Rattle.answers.specs.declared.Answer.the-variants.{Done, Refused}
+use Rattle.ends.specs.declared.Ends.{Ends}
+use Rattle.ends.specs.Ends.{emptyEnds, turned}
+use Rattle.cursor.specs.declared.Cursor.{Cursor}
 use Rattle.cursor.specs.Cursor.{edited}
 use Rattle.moves.specs.Moves.{movedNext, movedPrev, moveNext, movePrev}
 use Rattle.cursor.specs.Plain.{Place, nodes, nextPlace, prevPlace, Sound}
-use Rattle.edit.specs.Plain.{linkedIn, Does}
+use Rattle.cursor.specs.Does.{linkedIn, Does}
 use Rattle.insert.specs.Inserts.{insertAfter, insertBefore}
 use Rattle.insert.specs.Plain.{plainInsertAfter, plainInsertBefore}
 use Rattle.remove.specs.Removes.{remove, replace}
@@ -28,7 +28,7 @@ use Rattle.splice.specs.Splices.{spliceAfter, spliceBefore}
 use Rattle.splice.specs.Plain.{plainSpliceAfter, plainSpliceBefore, DoesTwo}
 use Rattle.split.specs.Splits.{splitAfter, splitBefore}
 use Rattle.split.specs.Plain.{plainSplitAfter, plainSplitBefore}
-use Rattle.list.specs.Lists.{listed, taken, pushFront, pushBack, popFront, popBack, take, fastClear, reversed}
+use Rattle.list.specs.Lists.{listEdited, taken, pushFront, pushBack, popFront, popBack, take, fastClear, reversed}
 use Rattle.list.specs.Plain.{plainPushFront, plainPushBack, plainPopFront, plainPopBack, DoesList}
 use Rattle.walk.specs.Marks.{paint, unmarked, marking}
 use Rattle.walk.specs.Calls.{clearAll}
@@ -49,7 +49,7 @@ pub record AtBoth (ws : List ℕ) (e : Ends) (c : Cursor) (o : Ends) (z : Place)
   pub split-after : DoesTwo ws z ys (splitAfter ws e c o) (plainSplitAfter ys z)
   pub split-before : DoesTwo ws z ys (splitBefore ws e c o) (plainSplitBefore ys z)
 
--- The calls on a list with the sequence xs. Take, fast clear and reverse change no word; clear writes 1 in each node, and
+-- The calls on a list with the sequence xs. Take, fast clear and reverse change no word; clear writes the unlinked marker in each node, and
 -- no other word.
 pub record OnList (ws : List ℕ) (e : Ends) (xs : List ℕ) : Type 0 where
   pub push-front : (i : Node) → DoesList ws xs (pushFront ws e i) (plainPushFront (length ws) (linkedIn ws) (i .0) xs)
@@ -58,10 +58,10 @@ pub record OnList (ws : List ℕ) (e : Ends) (xs : List ℕ) : Type 0 where
   pub pop-back : DoesList ws xs (popBack ws e) (plainPopBack (linkedIn ws) xs)
   pub take-empty : (o : Ends) → Listing bitXor ws (o .head .0) (o .tail .0) [] → take ws e o ≡ taken Done emptyEnds e
   pub take-full : (o : Ends) (y : ℕ) (ys : List ℕ) → Listing bitXor ws (o .head .0) (o .tail .0) (y ∷ ys) → take ws e o ≡ taken (Refused NotEmpty) e o
-  pub fast-clear : fastClear ws e ≡ listed Done emptyEnds
-  pub reversal : (reversed ws e ≡ listed Done (turned e)) × Listing bitXor ws (e .tail .0) (e .head .0) (reverse xs)
+  pub fast-clear : fastClear ws e ≡ listEdited Done emptyEnds
+  pub reversal : (reversed ws e ≡ listEdited Done (turned e)) × Listing bitXor ws (e .tail .0) (e .head .0) (reverse xs)
   pub clear : (ms : List ℕ) → length ms ≡ length ws
-      → clearAll ws ms e ≡ outcome (paint ws 1 xs) (marking (paint (unmarked ms) 1 xs) (record { answer = Done; ends = emptyEnds }))
+      → clearAll ws ms e ≡ outcome (paint ws unlinkedMarker xs) (marking (paint (unmarked ms) 1 xs) (record { answer = Done; ends = emptyEnds }))
 
 -- All of it, for every pool within the limit.
 pub record Demand2 : Type 0 where

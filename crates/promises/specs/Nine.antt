@@ -1,16 +1,14 @@
 -- The nine chains of document 01, 'Chains to try', that are marked P: what is tried, and what must come of it.
 use Prim.Native.Nat.{ℕ}
-use mathlib.Core.Bool.{Bool, true, false, cond}
-use mathlib.Core.List.{List, [], _∷_, reverse, map}
+use mathlib.Core.Bool.{cond}
+use mathlib.Core.List.{List, [], _∷_, reverse}
 use lib.Dec.{eqb}
 use lib.ListN.{length, replicate}
 use Rattle.words.specs.declared.names.Name.{Name}
-use Rattle.words.specs.declared.names.Node.{Node}
-use Rattle.standing.specs.declared.answer.Answer.{Answer}
-use Rattle.standing.specs.declared.ends.Ends.{Ends}
-use Rattle.standing.specs.Answer.{answerNumber}
-use Rattle.standing.specs.Ends.{endsOf}
-use Rattle.cursor.specs.declared.cursor.Cursor.{Cursor}
+use Rattle.ends.specs.declared.Ends.{Ends}
+use Rattle.answers.specs.Answer.{answerNumber}
+use Rattle.ends.specs.Ends.{endsOf}
+use Rattle.cursor.specs.declared.Cursor.{Cursor}
 use Rattle.cursor.specs.Cursor.{cursorOf, nullCursor, cursorStands}
 use Rattle.remove.specs.Removes.{replace}
 use Rattle.walk.specs.Walk.{walkOf}
@@ -45,11 +43,11 @@ comes a n xs = record { number = a; count = n; nodes = xs }
 -- stand is refused 5.
 abbrev pub tried : Try → Comes
 tried (walks ws e) =
-    let r = walkAll ws (replicate (length ws) 0) e .answer in
+    let r = walkAll ws (replicate (length ws) 0) e .result in
     let met = reverse (walkOf ws (replicate (length ws) 0) e .met) in
     cond (eqb (answerNumber (r .answer)) 4) (comes 4 (r .count) []) (comes (answerNumber (r .answer)) (r .count) met)
 tried (stands ws e c) = cond (cursorStands ws e c) (comes 0 0 []) (comes 5 0 [])
-tried (replaces ws e i) = comes (answerNumber (replace ws e (nullCursor e) (record { 0 = i }) .answer .answer)) 0 []
+tried (replaces ws e i) = comes (answerNumber (replace ws e (nullCursor e) (record { 0 = i }) .result .answer)) 0 []
 
 -- The nine.
 abbrev pub nine : List Try

@@ -5,11 +5,11 @@ use mathlib.Core.List.{List, []}
 use lib.Dec.{ltb, leb, eqb}
 use lib.ListN.{length, take, drop}
 use Rattle.words.specs.Names.{nodeOf, poolFits}
-use Rattle.standing.specs.declared.answer.Refusal.the-variants.{Size}
-use Rattle.standing.specs.declared.answer.Answer.{Answer}
-use Rattle.standing.specs.declared.ends.Ends.{Ends}
-use Rattle.standing.specs.Answer.{need, isRefused}
-use Rattle.cursor.specs.declared.cursor.Cursor.{Cursor}
+use Rattle.answers.specs.declared.Refusal.the-variants.{Size}
+use Rattle.answers.specs.declared.Answer.{Answer}
+use Rattle.ends.specs.declared.Ends.{Ends}
+use Rattle.answers.specs.Answer.{need, isRefused}
+use Rattle.cursor.specs.declared.Cursor.{Cursor}
 use Rattle.cursor.specs.Cursor.{standTest, someTest}
 
 -- The pool is within the limit, the width is 1 to 256, and there are width times nodes bytes.

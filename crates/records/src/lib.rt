@@ -1,8 +1,8 @@
 // Reading: the node's own part of a flat slice of records, one a node, all of one width.
-use cursor::cursor::Cursor;
-use standing::answer::Answer;
-use standing::answer::Refusal;
-use standing::ends::Ends;
+use answers::Answer;
+use answers::Refusal;
+use cursor::Cursor;
+use ends::Ends;
 use words::names::Found;
 ghost use mathlib.Core.Path.{_≡_};
 ghost use lib.ListN.{length};

@@ -3,11 +3,11 @@ use Prim.Native.Nat.{ℕ}
 use mathlib.Core.Bool.{Bool, cond}
 use mathlib.Core.List.{List, [], _∷_}
 use lib.Dec.{ltb}
-use Rattle.standing.specs.declared.answer.Refusal.the-variants.{NoSuchNode, AtNull}
-use Rattle.standing.specs.declared.answer.Answer.the-variants.{Handed, Refused}
-use Rattle.standing.specs.Answer.{need, isRefused}
+use Rattle.answers.specs.declared.Refusal.the-variants.{NoSuchNode, AtNull}
+use Rattle.answers.specs.declared.Answer.the-variants.{Handed, Refused}
+use Rattle.answers.specs.Answer.{need, isRefused}
 use Rattle.cursor.specs.Plain.{Place, at, atNull}
-use Rattle.edit.specs.Plain.{Plain, plain, linking, unlinking, freeTest}
+use Rattle.cursor.specs.Does.{Plain, plain, linking, unlinking, freeTest}
 
 -- To the following node, or null.
 abbrev pub placeWithout : List ℕ → List ℕ → Place

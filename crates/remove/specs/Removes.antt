@@ -8,14 +8,15 @@ use Rattle.words.specs.declared.names.Node.{Node}
 use Rattle.words.specs.declared.names.Name.{Name}
 use Rattle.words.specs.Names.{isNull, naming, decoding}
 use Rattle.words.specs.Pool.{Outcome, outcome}
-use Rattle.words.specs.LinkOps.{releaseLink, nextOf, setLink, replaceNextOrPrev}
-use Rattle.standing.specs.declared.ends.Ends.{Ends}
-use Rattle.standing.specs.Answer.{handing}
-use Rattle.standing.specs.Ends.{endsOf}
-use Rattle.cursor.specs.declared.cursor.Cursor.{Cursor}
-use Rattle.cursor.specs.declared.cursor.Edited.{Edited}
-use Rattle.cursor.specs.Cursor.{cursorOf, nullCursor, edited, standTest, nodeTest, someTest}
-use Rattle.edit.specs.Edits.{unlessRefused, acquiring}
+use Rattle.words.specs.LinkOps.{releaseLink}
+use Rattle.links.specs.XorOps.{nextOf, setLink, replaceNextOrPrev}
+use Rattle.ends.specs.declared.Ends.{Ends}
+use Rattle.answers.specs.Answer.{handing}
+use Rattle.ends.specs.Ends.{endsOf}
+use Rattle.cursor.specs.declared.Cursor.{Cursor}
+use Rattle.cursor.specs.declared.Edited.{Edited}
+use Rattle.cursor.specs.Cursor.{cursorOf, nullCursor, edited, standTest, nodeTest, someTest, acquireNode}
+use Rattle.cursor.specs.Edits.{unlessRefused}
 
 -- ---- remove
 
@@ -46,4 +47,5 @@ replaced ws e c new =
 
 unfoldable pub replace : List ℕ → Ends → Cursor → Node → Outcome Edited
 replace ws e c i =
-    unlessRefused (someTest (nodeTest ws e c i) c) ws e c (acquiring ws e c (naming i) (λ ws1. replaced ws1 e c (naming i)))
+    let t = acquireNode ws (someTest (nodeTest ws e c i) c) (naming i) in
+    unlessRefused (t .result) (t .words) e c (replaced (t .words) e c (naming i))

@@ -1,11 +1,12 @@
 // Remove and replace: the node under the cursor is handed out, unlinked.
-use cursor::cursor::Cursor;
-use cursor::cursor::Edited;
-use cursor::cursor::either;
-use links::link_ops::LinkOps;
-use standing::answer::Answer;
-use standing::answer::Refusal;
-use standing::ends::Ends;
+use answers::Answer;
+use cursor::Cursor;
+use cursor::Edited;
+use cursor::acquire_node;
+use cursor::either;
+use ends::Ends;
+use links::xor_ops::XorLinkedListOps;
+use words::link_ops::LinkOps;
 use words::names::Name;
 use words::names::Node;
 ghost use mathlib.Core.Path.{_≡_};
@@ -21,23 +22,16 @@ pub fn unlink(words: &mut [u32], ends: Ends, cursor: Cursor) -> Edited
     let next = cursor.next;
     let answer = Answer::handing(current.decode(words.len()));
     LinkOps::release_link(words, current);
-    LinkOps::replace_next_or_prev(words, prev, current, next);
-    LinkOps::replace_next_or_prev(words, next, current, prev);
+    XorLinkedListOps::replace_next_or_prev(words, prev, current, next);
+    XorLinkedListOps::replace_next_or_prev(words, next, current, prev);
     let head = either(ends.head.0 == current.0, next, ends.head);
     let tail = either(ends.tail.0 == current.0, prev, ends.tail);
     let e = Ends::new(head, tail);
     if next.is_null() {
-        return Edited {
-            answer: answer,
-            ends: e,
-            cursor: Cursor::null(e),
-        };
+        return Edited::new(answer, e, Cursor::null(e));
     }
-    Edited {
-        answer: answer,
-        ends: e,
-        cursor: Cursor::new(next, prev, LinkOps::next(words, next, prev)),
-    }
+    let c = Cursor::new(next, prev, XorLinkedListOps::next(words, next, prev));
+    Edited::new(answer, e, c)
 }
 
 // The steps of replace, by a node that is acquired.
@@ -48,15 +42,12 @@ fn relink(words: &mut [u32], ends: Ends, cursor: Cursor, new: Name) -> Edited
     let answer = Answer::handing(current.decode(words.len()));
     let head = either(ends.head.0 == current.0, new, ends.head);
     let tail = either(ends.tail.0 == current.0, new, ends.tail);
-    LinkOps::replace_next_or_prev(words, cursor.prev, current, new);
-    LinkOps::replace_next_or_prev(words, cursor.next, current, new);
-    LinkOps::set(words, new, cursor.prev, cursor.next);
+    XorLinkedListOps::replace_next_or_prev(words, cursor.prev, current, new);
+    XorLinkedListOps::replace_next_or_prev(words, cursor.next, current, new);
+    XorLinkedListOps::set(words, new, cursor.prev, cursor.next);
     LinkOps::release_link(words, current);
-    Edited {
-        answer: answer,
-        ends: Ends::new(head, tail),
-        cursor: Cursor::new(new, cursor.prev, cursor.next),
-    }
+    let c = Cursor::new(new, cursor.prev, cursor.next);
+    Edited::new(answer, Ends::new(head, tail), c)
 }
 
 pub fn remove(cursor: Cursor, words: &mut [u32], ends: Ends) -> Edited
@@ -64,11 +55,7 @@ pub fn remove(cursor: Cursor, words: &mut [u32], ends: Ends) -> Edited
 {
     let t = cursor.some_test(cursor.stand_test(words, ends));
     if t.is_refused() {
-        return Edited {
-            answer: t,
-            ends: ends,
-            cursor: cursor,
-        };
+        return Edited::new(t, ends, cursor);
     }
     unlink(words, ends, cursor)
 }
@@ -76,21 +63,11 @@ pub fn remove(cursor: Cursor, words: &mut [u32], ends: Ends) -> Edited
 pub fn replace(cursor: Cursor, words: &mut [u32], ends: Ends, node: Node) -> Edited
     ensures { λ r. ⌜ outcome (now (words .exit)) r ≡ Rattle.remove.specs.Removes.replace (now (words .entry)) ends cursor node ⌝ }
 {
-    let t = cursor.some_test(cursor.node_test(words, ends, node));
-    if t.is_refused() {
-        return Edited {
-            answer: t,
-            ends: ends,
-            cursor: cursor,
-        };
-    }
     let new = node.to_name();
-    if !LinkOps::acquire_link(words, new) {
-        return Edited {
-            answer: Answer::Refused(Refusal::AlreadyLinked),
-            ends: ends,
-            cursor: cursor,
-        };
+    let test = cursor.some_test(cursor.node_test(words, ends, node));
+    let t = acquire_node(words, test, new);
+    if t.is_refused() {
+        return Edited::new(t, ends, cursor);
     }
     relink(words, ends, cursor, new)
 }

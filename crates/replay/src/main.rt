@@ -13,43 +13,21 @@ fn send(number: u32, first: u32, second: u32) {
 }
 
 // A line that has ended, and its answer.
-fn run(
-    words: &mut [u32; 1024],
-    heads: &mut [u32; 8],
-    tails: &mut [u32; 8],
-    currents: &mut [u32; 8],
-    prevs: &mut [u32; 8],
-    nexts: &mut [u32; 8],
-    marks: &mut [u8; 1024],
-    said: Parsed,
-) {
-    let r = lent::obey::obey(words, heads, tails, currents, prevs, nexts, marks, said);
+fn run(words: &mut [u32; 1024], lists: &mut [u32; 40], marks: &mut [u8; 1024], said: Parsed) {
+    let r = lent_desk::step(words, lists, marks, said);
     send(r.number, r.first, r.second);
 }
 
 // One byte more: a line feed ends the line.
 fn take(
     words: &mut [u32; 1024],
-    heads: &mut [u32; 8],
-    tails: &mut [u32; 8],
-    currents: &mut [u32; 8],
-    prevs: &mut [u32; 8],
-    nexts: &mut [u32; 8],
+    lists: &mut [u32; 40],
     marks: &mut [u8; 1024],
     line: Line,
     b: u8,
 ) -> Line {
     if b == b'\n' {
-        run(
-            words,
-            heads,
-            tails,
-            currents,
-            prevs,
-            nexts,
-            marks,
-            line.parse(),
-        );
+        run(words, lists, marks, line.parse());
         return Line::new();
     }
     line.feed(b)
@@ -58,26 +36,12 @@ fn take(
 // All lines, from a fresh desk: every node is free, every list empty, every cursor null.
 fn replay(input: &[u8]) {
     let mut words = [1u32; 1024];
-    let mut heads = [0u32; 8];
-    let mut tails = [0u32; 8];
-    let mut currents = [0u32; 8];
-    let mut prevs = [0u32; 8];
-    let mut nexts = [0u32; 8];
+    let mut lists = [0u32; 40];
     let mut marks = [0u8; 1024];
     let mut line = Line::new();
     let mut i = 0;
     while i < input.len() {
-        line = take(
-            &mut words,
-            &mut heads,
-            &mut tails,
-            &mut currents,
-            &mut prevs,
-            &mut nexts,
-            &mut marks,
-            line,
-            input[i],
-        );
+        line = take(&mut words, &mut lists, &mut marks, line, input[i]);
         i += 1;
     }
 }

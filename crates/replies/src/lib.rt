@@ -1,8 +1,8 @@
 // The answer to a line, from what its command came to.
-use audit::audit::Audited;
-use desk::desk::Reply;
-use desk::desk::Worked;
-use standing::answer::Refusal;
+use answers::Refusal;
+use audit::Audited;
+use desk::Worked;
+use lines::answer::Reply;
 use words::names::Found;
 ghost use mathlib.Core.Path.{_≡_};
 ghost use Rattle.desk.specs.Reply.{shown, replyTo, replyToAudit, replyUnread};

@@ -7,8 +7,8 @@ use lib.ListN.{length, drop}
 use Rattle.lines.specs.Lines.{lineOf}
 use Rattle.lines.specs.Inputs.{linesOf}
 use Rattle.history.specs.History.{start}
-use Rattle.history.specs.Runs.{tellAll}
-use Rattle.batch.specs.Run.{bytesOfAll}
+use Rattle.history.specs.Runs.{plainAnswers}
+use Rattle.batch_desk.specs.Run.{bytesOfAll}
 
 -- What the call leaves: the answer bytes, and what it returns.
 pub record Entered : Type 0 where
@@ -24,7 +24,7 @@ mayRun cs out = leb (length cs) 65536 && leb (11 * length (linesOf cs)) (length 
 
 -- The bytes that answer an input: what the history of 1,024 nodes and eight lists tells of each line in turn, from its start.
 unfoldable pub answersTo : List ℕ → List ℕ
-answersTo cs = bytesOfAll (tellAll 1024 (start 8) (map lineOf (linesOf cs)))
+answersTo cs = bytesOfAll (plainAnswers 1024 (start 8) (map lineOf (linesOf cs)))
 
 -- They are written to the front, the rest stays as it was, and their number is returned. Refused 12, nothing changes.
 unfoldable pub entryOf : List ℕ → List ℕ → Entered

@@ -1,7 +1,7 @@
 // The entry for a host in C: command bytes in, answer bytes out, from a fresh desk at each call.
-use batch::finish;
-use batch::fresh;
-use batch::run;
+use batch_desk::finish;
+use batch_desk::fresh;
+use batch_desk::run;
 use lines::line::Line;
 ghost use mathlib.Core.Path.{_≡_};
 ghost use mathlib.Core.Bool.{cond};

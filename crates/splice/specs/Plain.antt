@@ -4,14 +4,15 @@ use Prim.Native.Nat.{ℕ}
 use mathlib.Core.Path.{_≡_}
 use mathlib.Core.List.{List, [], _++_}
 use lib.Bits.{bitXor}
-use lib.ListN.{length, getD}
+use lib.ListN.{getD}
 use Rattle.words.specs.Names.{isLinked}
 use Rattle.words.specs.Pool.{Outcome}
-use Rattle.words.specs.Listing.{Off, Apart, Listing}
-use Rattle.standing.specs.declared.answer.Answer.{Answer}
-use Rattle.standing.specs.declared.answer.Answer.the-variants.{Done}
-use Rattle.cursor.specs.declared.cursor.Parted.{Parted}
+use Rattle.words.specs.Listing.{Listing}
+use Rattle.answers.specs.declared.Answer.{Answer}
+use Rattle.answers.specs.declared.Answer.the-variants.{Done}
+use Rattle.cursor.specs.declared.EditedTwo.{EditedTwo}
 use Rattle.cursor.specs.Plain.{Place, at, atNull, nodes, Sound}
+use Rattle.cursor.specs.Alone.{LeavesAlone}
 
 -- What a plain edit of two sequences gives: the answer, the place on the named one, and the other one.
 pub record PlainTwo : Type 0 where
@@ -32,13 +33,10 @@ plainSpliceBefore ys (at L x R) = two Done (at (L ++ ys) x R) []
 plainSpliceBefore ys (atNull xs) = two Done (atNull (xs ++ ys)) []
 
 -- What is promised of a call on two sound lists that share no node: the same answer; the words and the ends of both new
--- sequences, with a true cursor at its place; every linked mark as it was; every listing of a third list that shares no
--- node with them, as it was; and the word of every node that is on neither, as it was.
-pub record DoesTwo (ws : List ℕ) (z : Place) (ys : List ℕ) (o : Outcome Parted) (d : PlainTwo) : Type 0 where
-  pub answer : o .answer .answer ≡ d .answer
-  pub sound : Sound (o .words) (o .answer .ends) (o .answer .cursor) (d .place)
-  pub other : Listing bitXor (o .words) (o .answer .other .head .0) (o .answer .other .tail .0) (d .other)
+-- sequences, with a true cursor at its place; every linked mark as it was; and everything else left alone.
+pub record DoesTwo (ws : List ℕ) (z : Place) (ys : List ℕ) (o : Outcome EditedTwo) (d : PlainTwo) : Type 0 where
+  pub answer : o .result .answer ≡ d .answer
+  pub sound : Sound (o .words) (o .result .ends) (o .result .cursor) (d .place)
+  pub other : Listing bitXor (o .words) (o .result .other .head .0) (o .result .other .tail .0) (d .other)
   pub marks : (j : ℕ) → isLinked (getD (o .words) j 0) ≡ isLinked (getD ws j 0)
-  pub others : (h t : ℕ) (vs : List ℕ) → Listing bitXor ws h t vs → Apart vs (nodes z) → Apart vs ys → Listing bitXor (o .words) h t vs
-  pub kept : (j : ℕ) → Off j (nodes z) → Off j ys → getD (o .words) j 0 ≡ getD ws j 0
-  pub long : length (o .words) ≡ length ws
+  pub alone : LeavesAlone ws (o .words) (nodes z ++ ys) (nodes (d .place) ++ d .other)

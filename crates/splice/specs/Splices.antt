@@ -5,37 +5,37 @@ use mathlib.Core.List.{List}
 use lib.Dec.{eqb}
 use Rattle.words.specs.Names.{isNull}
 use Rattle.words.specs.Pool.{Outcome, outcome}
-use Rattle.words.specs.LinkOps.{spliceBetween}
-use Rattle.standing.specs.declared.answer.Answer.the-variants.{Done}
-use Rattle.standing.specs.declared.ends.Ends.{Ends}
-use Rattle.standing.specs.Answer.{isRefused}
-use Rattle.standing.specs.Ends.{endsOf, emptyEnds, isEmpty}
-use Rattle.cursor.specs.declared.cursor.Cursor.{Cursor}
-use Rattle.cursor.specs.declared.cursor.Parted.{Parted}
-use Rattle.cursor.specs.Cursor.{cursorOf, nullCursor, parted, pairTest}
+use Rattle.links.specs.XorOps.{spliceBetween}
+use Rattle.answers.specs.declared.Answer.the-variants.{Done}
+use Rattle.ends.specs.declared.Ends.{Ends}
+use Rattle.answers.specs.Answer.{isRefused}
+use Rattle.ends.specs.Ends.{endsOf, emptyEnds, isEmpty}
+use Rattle.cursor.specs.declared.Cursor.{Cursor}
+use Rattle.cursor.specs.declared.EditedTwo.{EditedTwo}
+use Rattle.cursor.specs.Cursor.{cursorOf, nullCursor, editedTwo, pairTest}
 
 -- The whole other list, not empty, goes beside current; at null to the front, to the back.
-unfoldable pub splicedAfter : List ℕ → Ends → Cursor → Ends → Outcome Parted
+unfoldable pub splicedAfter : List ℕ → Ends → Cursor → Ends → Outcome EditedTwo
 splicedAfter ws e c o =
     let tail = cond (eqb (e .tail .0) (c .current .0)) (o .tail) (e .tail) in
     let front = endsOf (o .head) tail in
     outcome (spliceBetween ws (o .head .0) (o .tail .0) (c .current .0) (c .next .0))
-    (cond (isNull (c .current)) (parted Done front (nullCursor front) emptyEnds)
-    (parted Done (endsOf (e .head) tail) (cursorOf (c .current) (c .prev) (o .head)) emptyEnds))
+    (cond (isNull (c .current)) (editedTwo Done front (nullCursor front) emptyEnds)
+    (editedTwo Done (endsOf (e .head) tail) (cursorOf (c .current) (c .prev) (o .head)) emptyEnds))
 
-unfoldable pub splicedBefore : List ℕ → Ends → Cursor → Ends → Outcome Parted
+unfoldable pub splicedBefore : List ℕ → Ends → Cursor → Ends → Outcome EditedTwo
 splicedBefore ws e c o =
     let head = cond (eqb (e .head .0) (c .current .0)) (o .head) (e .head) in
     let back = endsOf head (o .tail) in
     outcome (spliceBetween ws (o .head .0) (o .tail .0) (c .prev .0) (c .current .0))
-    (cond (isNull (c .current)) (parted Done back (nullCursor back) emptyEnds)
-    (parted Done (endsOf head (e .tail)) (cursorOf (c .current) (o .tail) (c .next)) emptyEnds))
+    (cond (isNull (c .current)) (editedTwo Done back (nullCursor back) emptyEnds)
+    (editedTwo Done (endsOf head (e .tail)) (cursorOf (c .current) (o .tail) (c .next)) emptyEnds))
 
 -- An empty other list changes nothing.
-unfoldable pub spliceAfter : List ℕ → Ends → Cursor → Ends → Outcome Parted
+unfoldable pub spliceAfter : List ℕ → Ends → Cursor → Ends → Outcome EditedTwo
 spliceAfter ws e c o =
-    let t = pairTest ws e c o in cond (isRefused t || isEmpty o) (outcome ws (parted t e c o)) (splicedAfter ws e c o)
+    let t = pairTest ws e c o in cond (isRefused t || isEmpty o) (outcome ws (editedTwo t e c o)) (splicedAfter ws e c o)
 
-unfoldable pub spliceBefore : List ℕ → Ends → Cursor → Ends → Outcome Parted
+unfoldable pub spliceBefore : List ℕ → Ends → Cursor → Ends → Outcome EditedTwo
 spliceBefore ws e c o =
-    let t = pairTest ws e c o in cond (isRefused t || isEmpty o) (outcome ws (parted t e c o)) (splicedBefore ws e c o)
+    let t = pairTest ws e c o in cond (isRefused t || isEmpty o) (outcome ws (editedTwo t e c o)) (splicedBefore ws e c o)

@@ -1,8 +1,8 @@
 -- The plain edits that splits stand for (document 01, 'Edits'). No word is in them.
 use Prim.Native.Nat.{ℕ}
 use mathlib.Core.List.{List, [], _∷_}
-use Rattle.standing.specs.declared.answer.Refusal.the-variants.{NotEmpty}
-use Rattle.standing.specs.declared.answer.Answer.the-variants.{Done, Refused}
+use Rattle.answers.specs.declared.Refusal.the-variants.{NotEmpty}
+use Rattle.answers.specs.declared.Answer.the-variants.{Done, Refused}
 use Rattle.cursor.specs.Plain.{Place, at, atNull}
 use Rattle.splice.specs.Plain.{PlainTwo, two}
 

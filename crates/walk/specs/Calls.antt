@@ -4,14 +4,15 @@ use mathlib.Core.Bool.{Bool, false, _&&_, not, cond}
 use mathlib.Core.List.{List}
 use lib.Dec.{eqb}
 use lib.ListN.{length}
+use Rattle.words.specs.Names.{unlinkedMarker}
 use Rattle.words.specs.Pool.{Outcome, outcome}
-use Rattle.standing.specs.declared.answer.Refusal.{Refusal}
-use Rattle.standing.specs.declared.answer.Refusal.the-variants.{Size, EndsDoNotHold, NoListing}
-use Rattle.standing.specs.declared.answer.Answer.the-variants.{Done, Refused}
-use Rattle.standing.specs.declared.ends.Ends.{Ends}
-use Rattle.standing.specs.Answer.{isRefused}
-use Rattle.standing.specs.Ends.{emptyEnds}
-use Rattle.standing.specs.Tests.{endsHold}
+use Rattle.answers.specs.declared.Refusal.{Refusal}
+use Rattle.answers.specs.declared.Refusal.the-variants.{Size, EndsDoNotHold, NoListing}
+use Rattle.answers.specs.declared.Answer.the-variants.{Done, Refused}
+use Rattle.ends.specs.declared.Ends.{Ends}
+use Rattle.answers.specs.Answer.{isRefused}
+use Rattle.ends.specs.Ends.{emptyEnds}
+use Rattle.ends.specs.Tests.{endsHold}
 use Rattle.walk.specs.declared.step.Stood.{Stood}
 use Rattle.walk.specs.declared.walk.Walked.{Walked}
 use Rattle.walk.specs.declared.clear.Cleared.{Cleared}
@@ -56,7 +57,7 @@ walkAll ws ms e =
 unfoldable pub clearAll : List ℕ → List ℕ → Ends → Outcome (Marking Cleared)
 clearAll ws ms e =
     let w = walkAll ws ms e in
-    let a = w .answer .answer in
+    let a = w .result .answer in
     cond (isRefused a)
     (outcome ws (marking (w .marks) (record { answer = a; ends = e })))
-    (outcome (paint ws 1 (walkOf ws (unmarked ms) e .met)) (marking (w .marks) (record { answer = a; ends = emptyEnds })))
+    (outcome (paint ws unlinkedMarker (walkOf ws (unmarked ms) e .met)) (marking (w .marks) (record { answer = a; ends = emptyEnds })))

@@ -32,7 +32,7 @@ sizesFit ws ms = poolFits (length ws) && eqb (length ms) (length ws)
 -- What a call with lent marks leaves: the marks, and what it hands back. A contract says both in one equation.
 pub record Marking (A : Type 0) : Type 0 where
   pub marks : List ℕ
-  pub answer : A
+  pub result : A
 
 abbrev pub marking : {A : Type 0} → List ℕ → A → Marking A
-marking ms a = record { marks = ms; answer = a }
+marking ms a = record { marks = ms; result = a }

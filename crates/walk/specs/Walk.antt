@@ -7,8 +7,8 @@ use lib.Bits.{bitXor}
 use lib.Dec.{eqb}
 use lib.ListN.{length, getD}
 use Rattle.words.specs.Names.{isName, nodeOf}
-use Rattle.standing.specs.declared.ends.Ends.{Ends}
-use Rattle.standing.specs.Ends.{isEmpty}
+use Rattle.ends.specs.declared.Ends.{Ends}
+use Rattle.ends.specs.Ends.{isEmpty}
 use Rattle.walk.specs.Marks.{elem, isMarked}
 
 -- How a walk ends: whether where it should, with nothing after that; and the nodes that it stood on, the last one first.

@@ -1,12 +1,13 @@
 // Clear: every node of a list is released, and the list is empty.
 use crate::walk::walk;
-use links::link_ops::Link;
-use standing::answer::Answer;
-use standing::ends::Ends;
+use answers::Answer;
+use ends::Ends;
+use words::link_ops::Link;
 ghost use mathlib.Core.Path.{_≡_};
 ghost use mathlib.Core.Bool.{cond};
 ghost use lib.Dec.{eqb};
 ghost use lib.ListN.{length};
+ghost use Rattle.words.specs.Names.{unlinkedMarker};
 ghost use Rattle.words.specs.Pool.{outcome};
 ghost use Rattle.walk.specs.Marks.{marking};
 ghost use Rattle.walk.specs.Calls.{clearAll};
@@ -20,7 +21,7 @@ pub struct Cleared {
 
 // The word of a node that has this mark, once the list with the mark 1 is released.
 fn released(word: u32, mark: u8) -> u32
-    ensures { λ r. ⌜ r ≡ cond (eqb mark 1) 1 word ⌝ }
+    ensures { λ r. ⌜ r ≡ cond (eqb mark 1) unlinkedMarker word ⌝ }
 {
     if mark == 1 {
         return Link::UNLINKED_MARKER;

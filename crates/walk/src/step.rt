@@ -1,6 +1,6 @@
 // The step of one list: it follows the chain from the head, and sets a mark on every node that it stands on.
-use links::link_ops::LinkOps;
-use standing::ends::Ends;
+use ends::Ends;
+use links::xor_ops::XorLinkedListOps;
 use words::names::Found;
 use words::names::Name;
 ghost use mathlib.Core.Path.{_≡_};
@@ -43,7 +43,7 @@ fn walk_from(words: &[u32], marks: &mut [u8], ends: Ends, mark: u8) -> Stood
         }
         marks[x] = mark;
         count += 1;
-        let next = LinkOps::next(words, at, prev);
+        let next = XorLinkedListOps::next(words, at, prev);
         if at.0 == tail.0 {
             return Stood {
                 ok: next.is_null(),
@@ -62,7 +62,7 @@ pub fn walk_list(words: &[u32], marks: &mut [u8], ends: Ends, mark: u8) -> Stood
 {
     let n = words.len();
     let sizes_fit = words::names::pool_fits(n) & (marks.len() == n);
-    if !(sizes_fit & (mark != 0) & standing::tests::ends_hold(words, ends)) {
+    if !(sizes_fit & (mark != 0) & ends::tests::ends_hold(words, ends)) {
         return Stood {
             ok: false,
             count: 0,

@@ -1,9 +1,9 @@
 // The walk: whether a list has a listing, and how long it is.
 use crate::marks::zero_marks;
 use crate::step::walk_list;
-use standing::answer::Answer;
-use standing::answer::Refusal;
-use standing::ends::Ends;
+use answers::Answer;
+use answers::Refusal;
+use ends::Ends;
 ghost use mathlib.Core.Path.{_≡_};
 ghost use Rattle.walk.specs.Marks.{marking};
 ghost use Rattle.walk.specs.Calls.{walkAll};
@@ -25,7 +25,7 @@ pub fn walk(words: &[u32], marks: &mut [u8], ends: Ends) -> Walked
             count: 0,
         };
     }
-    if !standing::tests::ends_hold(words, ends) {
+    if !ends::tests::ends_hold(words, ends) {
         return Walked {
             answer: Answer::Refused(Refusal::EndsDoNotHold),
             count: 0,

@@ -1,6 +1,5 @@
 -- The laws of words, links and listings, each said once. Read from the top; a later one uses earlier ones.
 pub mod Cases
-pub mod Xor
 pub mod Nodes
 pub mod Names
 pub mod Pool
@@ -9,6 +8,4 @@ pub mod Part
 pub mod Listing
 pub mod Outside
 pub mod Afresh
-pub mod Between
-pub mod Cuts
 pub mod Unique

@@ -16,6 +16,14 @@ poolLimit = 4096
 unfoldable pub poolFits : ℕ → Bool
 poolFits n = leb n poolLimit
 
+-- The most lists that a directory may have. No other definition says so.
+unfoldable pub directoryLimit : ℕ
+directoryLimit = 64
+
+-- A directory of k lists is within the limit.
+unfoldable pub directoryFits : ℕ → Bool
+directoryFits k = leb k directoryLimit
+
 -- The name of node i. 0 is no node's.
 abbrev pub name : ℕ → ℕ
 name i = 2 * (i + 1)
@@ -43,6 +51,10 @@ naming i = cond (ltb (name (i .0)) (2 ^ 32)) (record { 0 = name (i .0) }) null
 unfoldable pub decoding : ℕ → Name → Found
 decoding n w = cond (isName n (w .0)) (At (record { 0 = nodeOf (w .0) })) Nothing
 
--- A node whose word is 1 is unlinked; any other word counts as linked, 0 too.
+-- The word of an unlinked node (`UNLINKED_MARKER`). It is no name, and no xor of names.
+abbrev pub unlinkedMarker : ℕ
+unlinkedMarker = 1
+
+-- Any other word counts as linked, 0 too.
 unfoldable pub isLinked : ℕ → Bool
-isLinked w = not (eqb w 1)
+isLinked w = not (eqb w unlinkedMarker)

@@ -16,7 +16,7 @@ putAt ws w v = cond (isName (length ws) w) (set ws (nodeOf w) v) ws
 -- What a call leaves: the pool's words, and what it hands back. A contract says both in one equation.
 pub record Outcome (A : Type 0) : Type 0 where
   pub words : List ℕ
-  pub answer : A
+  pub result : A
 
 abbrev pub outcome : {A : Type 0} → List ℕ → A → Outcome A
-outcome ws a = record { words = ws; answer = a }
+outcome ws a = record { words = ws; result = a }

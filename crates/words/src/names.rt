@@ -1,6 +1,6 @@
 // Node numbers and names: two kinds of number, each a struct of its own. `Node::to_name` and `Name::decode` lead across.
 ghost use mathlib.Core.Path.{_≡_};
-ghost use Rattle.words.specs.Names.{poolFits, isNull, isName, naming, decoding};
+ghost use Rattle.words.specs.Names.{poolFits, directoryFits, isNull, isName, naming, decoding};
 
 // The number of a node: its place in the pool.
 pub struct Node(pub u32);
@@ -17,11 +17,21 @@ pub enum Found {
 // The most nodes that a pool may have.
 const POOL_LIMIT: usize = 4096;
 
+// The most lists that a directory may have.
+const DIRECTORY_LIMIT: usize = 64;
+
 // A pool of this many nodes is within the limit.
 pub fn pool_fits(len: usize) -> bool
     ensures { λ r. ⌜ r ≡ poolFits len ⌝ }
 {
     len <= POOL_LIMIT
+}
+
+// A directory of this many lists is within the limit.
+pub fn directory_fits(lists: usize) -> bool
+    ensures { λ r. ⌜ r ≡ directoryFits lists ⌝ }
+{
+    lists <= DIRECTORY_LIMIT
 }
 
 impl Node {

@@ -2,28 +2,28 @@
 -- the lowest list at fault. Assumes nothing.
 use mathlib.Core.Path.{_≡_, refl, sym, ap, _∙_}
 use mathlib.Core.Bool.{Bool, true, false}
-use mathlib.Core.List.{List, [], _∷_, _++_}
+use mathlib.Core.List.{List, _∷_, _++_}
 use Prim.Native.Nat.{ℕ, _+_, _≤_}
 use native.Mathlib.Omega.{arith}
 use lib.Bits.{bitXor}
 use lib.Dec.{leb}
 use lib.ListN.{length, replicate, length-replicate}
 use borrow.Author.Tests.{leb-true, le-leb}
-use Rattle.words.specs.Names.{poolFits}
+use Rattle.words.specs.Names.{directoryLimit, directoryFits, poolFits}
 use Rattle.words.specs.Listing.{Distinct, Apart, Listing}
 use Rattle.words.specs.Afresh.{joined}
 use Rattle.words.proofs.Laws.Cases.{both}
-use Rattle.standing.specs.declared.answer.Refusal.the-variants.{Size, EndsDoNotHold, NoListing}
-use Rattle.standing.specs.declared.answer.Answer.{Answer}
-use Rattle.standing.specs.declared.answer.Answer.the-variants.{Done, Refused}
-use Rattle.standing.specs.declared.ends.Ends.{Ends}
-use Rattle.standing.specs.Answer.{answerNumber}
-use Rattle.standing.specs.Tests.{endsHold}
+use Rattle.answers.specs.declared.Refusal.the-variants.{Size, EndsDoNotHold, NoListing}
+use Rattle.answers.specs.declared.Answer.{Answer}
+use Rattle.answers.specs.declared.Answer.the-variants.{Done, Refused}
+use Rattle.ends.specs.declared.Ends.{Ends}
+use Rattle.answers.specs.Answer.{answerNumber}
+use Rattle.ends.specs.Tests.{endsHold}
 use Rattle.walk.specs.Marks.{unmarked, sizesFit, Marking, marking}
 use Rattle.walk.proofs.Laws.Marks.{unmarked-clean}
 use Rattle.walk.proofs.Laws.Calls.{sizes, sizes-fit}
-use Rattle.audit.specs.declared.audit.Audited.{Audited}
-use Rattle.audit.specs.Audit.{directoryLimit, auditFits, Lowest, none, list, lowestUnheld, walksOf, tally, isStranded, refusedAt, afterWalks, afterEnds, auditAll}
+use Rattle.audit.specs.declared.Audited.{Audited}
+use Rattle.audit.specs.Audit.{auditFits, Lowest, none, list, lowestUnheld, walksOf, tally, isStranded, refusedAt, afterWalks, afterEnds, auditAll}
 use Rattle.audit.specs.Listed.{AllHold, Listed, AllApart, paintAll, isStray}
 use Rattle.audit.proofs.Laws.Passes.{walks-length}
 use Rattle.audit.proofs.Laws.Sequences.{apart-distinct, distinct-all-apart, listed-ranged, listed-hold}
@@ -38,14 +38,14 @@ pub record Fits (ws : List ℕ) (es : List Ends) (ms : List ℕ) : Type 0 where
   pub few : length es ≤ directoryLimit
 
 pub fits : (ws : List ℕ) (es : List Ends) (ms : List ℕ) → auditFits ws es ms ≡ true → Fits ws es ms
-unfolding auditFits
+unfolding auditFits directoryFits
 fits ws es ms h =
     let a = both (sizesFit ws ms) (leb (length es) directoryLimit) h in
     let s = sizes ws ms (a .0) in
     record { pool = s .fits; long = s .long; few = leb-true (length es) directoryLimit (a .1) }
 
 pub fit : (ws : List ℕ) (es : List Ends) (ms : List ℕ) → Fits ws es ms → auditFits ws es ms ≡ true
-unfolding auditFits
+unfolding auditFits directoryFits
 fit ws es ms f = rw (sizes-fit ws ms (f .pool) (f .long), le-leb (length es) directoryLimit (f .few))
 
 -- ---- how it comes out
@@ -65,11 +65,11 @@ module _ (ws : List ℕ) (es : List Ends) (ms : List ℕ) where
   unfolding auditAll
   audit-after f l h = rw f (ap (afterEnds ws es ms) h)
 
-  audit-walks : auditFits ws es ms ≡ true → lowestUnheld ws 0 es ≡ none → (l : Lowest) → walksOf ws 0 es (unmarked ms) .answer ≡ l
+  audit-walks : auditFits ws es ms ≡ true → lowestUnheld ws 0 es ≡ none → (l : Lowest) → walksOf ws 0 es (unmarked ms) .result ≡ l
       → auditAll ws es ms ≡ afterWalks ws (walksOf ws 0 es (unmarked ms) .marks) l
   audit-walks f h l w = audit-after f none h ∙ ap (afterWalks ws (walksOf ws 0 es (unmarked ms) .marks)) w
 
-  audit-fault : auditFits ws es ms ≡ true → lowestUnheld ws 0 es ≡ none → (k : ℕ) → walksOf ws 0 es (unmarked ms) .answer ≡ list k
+  audit-fault : auditFits ws es ms ≡ true → lowestUnheld ws 0 es ≡ none → (k : ℕ) → walksOf ws 0 es (unmarked ms) .result ≡ list k
       → auditAll ws es ms ≡ marking (unmarked ms) (refusedAt NoListing k)
   audit-fault f h k w =
       audit-walks f h (list k) w
@@ -78,24 +78,24 @@ module _ (ws : List ℕ) (es : List Ends) (ms : List ℕ) where
   data View : Type 0 where
     size : auditFits ws es ms ≡ false → auditAll ws es ms ≡ marking ms (refusedAt Size 0) → View
     ends : auditFits ws es ms ≡ true → (k : ℕ) → lowestUnheld ws 0 es ≡ list k → auditAll ws es ms ≡ marking ms (refusedAt EndsDoNotHold k) → View
-    fault : auditFits ws es ms ≡ true → lowestUnheld ws 0 es ≡ none → (k : ℕ) → walksOf ws 0 es (unmarked ms) .answer ≡ list k
+    fault : auditFits ws es ms ≡ true → lowestUnheld ws 0 es ≡ none → (k : ℕ) → walksOf ws 0 es (unmarked ms) .result ≡ list k
         → auditAll ws es ms ≡ marking (unmarked ms) (refusedAt NoListing k) → View
-    done : auditFits ws es ms ≡ true → walksOf ws 0 es (unmarked ms) .answer ≡ none
+    done : auditFits ws es ms ≡ true → walksOf ws 0 es (unmarked ms) .result ≡ none
         → auditAll ws es ms ≡ afterWalks ws (walksOf ws 0 es (unmarked ms) .marks) none → View
 
   view : View
-  view = go (auditFits ws es ms) refl (lowestUnheld ws 0 es) refl (walksOf ws 0 es (unmarked ms) .answer) refl
+  view = go (auditFits ws es ms) refl (lowestUnheld ws 0 es) refl (walksOf ws 0 es (unmarked ms) .result) refl
     where
-      go : (b : Bool) → auditFits ws es ms ≡ b → (l : Lowest) → lowestUnheld ws 0 es ≡ l → (m : Lowest) → walksOf ws 0 es (unmarked ms) .answer ≡ m → View
+      go : (b : Bool) → auditFits ws es ms ≡ b → (l : Lowest) → lowestUnheld ws 0 es ≡ l → (m : Lowest) → walksOf ws 0 es (unmarked ms) .result ≡ m → View
       go false f l h m w = size f (audit-size f)
       go true f (list k) h m w = ends f k h (audit-after f (list k) h)
       go true f none h (list k) w = fault f h k w (audit-fault f h k w)
       go true f none h none w = done f w (audit-walks f h none w)
 
   -- by the number of the answer, a case that it is not
-  other : (a : Answer) (o : Marking Audited) → auditAll ws es ms .answer .answer ≡ a → auditAll ws es ms ≡ o
-      → answerNumber (o .answer .answer) ≡ answerNumber a
-  other a o d p = sym (ap (λ (x : Marking Audited). answerNumber (x .answer .answer)) p) ∙ ap answerNumber d
+  other : (a : Answer) (o : Marking Audited) → auditAll ws es ms .result .answer ≡ a → auditAll ws es ms ≡ o
+      → answerNumber (o .result .answer) ≡ answerNumber a
+  other a o d p = sym (ap (λ (x : Marking Audited). answerNumber (x .result .answer)) p) ∙ ap answerNumber d
 
   -- ---- accepted
 
@@ -105,7 +105,7 @@ module _ (ws : List ℕ) (es : List Ends) (ms : List ℕ) where
       let z = unmarked ms in
       let long : length z ≡ length ws = length-replicate {A = ℕ} (length ms) 0 ∙ f .long in
       let w = walks-accept ws 0 es z xss (f .pool) long l (unmarked-clean ms (joined xss)) d in
-      audit-walks (fit ws es ms f) (holds-none ws 0 es (listed-hold ws es xss l)) none (ap (λ (x : Marking Lowest). x .answer) w)
+      audit-walks (fit ws es ms f) (holds-none ws 0 es (listed-hold ws es xss l)) none (ap (λ (x : Marking Lowest). x .result) w)
       ∙ ap (λ (x : Marking Lowest). afterWalks ws (x .marks) none) w
       ∙ ap (λ (n : ℕ). marking (paintAll z 0 xss) (record { answer = Done; list = 0; «on_lists» = n; stranded = tally (length ws) (isStranded ws (paintAll z 0 xss)) }))
       (on-lists-is ws ms xss (f .long) d (listed-ranged ws es xss l))
@@ -123,7 +123,7 @@ module _ (ws : List ℕ) (es : List Ends) (ms : List ℕ) where
     pub apart : AllApart nodes
     pub comes : auditAll ws es ms ≡ audited ws ms nodes
 
-  sound : auditFits ws es ms ≡ true → walksOf ws 0 es (unmarked ms) .answer ≡ none → Sound
+  sound : auditFits ws es ms ≡ true → walksOf ws 0 es (unmarked ms) .result ≡ none → Sound
   sound f w =
       let a = walks-sound ws 0 es (unmarked ms) w in
       let s = fits ws es ms f in
@@ -137,7 +137,7 @@ module _ (ws : List ℕ) (es : List Ends) (ms : List ℕ) where
       }
 
   -- what is accepted has listings that share no node, and the marks and the numbers are theirs
-  pub audit-sound : auditAll ws es ms .answer .answer ≡ Done → Sound
+  pub audit-sound : auditAll ws es ms .result .answer ≡ Done → Sound
   audit-sound d = go view
     where
       go : View → Sound
@@ -159,7 +159,7 @@ module _ (ws : List ℕ) (es : List Ends) (ms : List ℕ) where
     pub comes : auditAll ws es ms ≡ marking ms (refusedAt EndsDoNotHold (length before))
 
   -- the ends of every lower list hold, and those of the list that is named do not
-  pub audit-lowest-4 : auditAll ws es ms .answer .answer ≡ Refused EndsDoNotHold → Lowest4
+  pub audit-lowest-4 : auditAll ws es ms .result .answer ≡ Refused EndsDoNotHold → Lowest4
   audit-lowest-4 d = go view
     where
       made : auditFits ws es ms ≡ true → (k : ℕ) → auditAll ws es ms ≡ marking ms (refusedAt EndsDoNotHold k) → Unheld ws 0 es k → Lowest4
@@ -198,7 +198,7 @@ module _ (ws : List ℕ) (es : List Ends) (ms : List ℕ) where
     pub comes : auditAll ws es ms ≡ marking (unmarked ms) (refusedAt NoListing (length before))
 
   -- the lower lists have listings that share no node, and the list that is named has none that shares no node with them
-  pub audit-lowest-10 : auditAll ws es ms .answer .answer ≡ Refused NoListing → Lowest10
+  pub audit-lowest-10 : auditAll ws es ms .result .answer ≡ Refused NoListing → Lowest10
   audit-lowest-10 d = go view
     where
       made : auditFits ws es ms ≡ true → lowestUnheld ws 0 es ≡ none → (k : ℕ) → auditAll ws es ms ≡ marking (unmarked ms) (refusedAt NoListing k)

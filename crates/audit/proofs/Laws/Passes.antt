@@ -9,23 +9,24 @@ use lib.Dec.{leb}
 use lib.ListN.{length, length-replicate}
 use borrow.Author.Tests.{leb-true}
 use Rattle.words.proofs.Laws.Cases.{true-or-false, both}
-use Rattle.standing.specs.declared.answer.Refusal.{Refusal}
-use Rattle.standing.specs.declared.answer.Refusal.the-variants.{Size, EndsDoNotHold, NoListing}
-use Rattle.standing.specs.declared.answer.Answer.the-variants.{Done, Refused}
-use Rattle.standing.specs.declared.ends.Ends.{Ends}
-use Rattle.standing.specs.Answer.{isRefused}
-use Rattle.standing.specs.Tests.{endsHold}
+use Rattle.words.specs.Names.{directoryLimit, directoryFits}
+use Rattle.answers.specs.declared.Refusal.{Refusal}
+use Rattle.answers.specs.declared.Refusal.the-variants.{Size, EndsDoNotHold, NoListing}
+use Rattle.answers.specs.declared.Answer.the-variants.{Done, Refused}
+use Rattle.ends.specs.declared.Ends.{Ends}
+use Rattle.answers.specs.Answer.{isRefused}
+use Rattle.ends.specs.Tests.{endsHold}
 use Rattle.walk.specs.Marks.{unmarked, sizesFit, Marking, marking}
 use Rattle.walk.specs.declared.step.Stood.{Stood}
 use Rattle.walk.specs.Walk.{walkOf}
 use Rattle.walk.specs.Calls.{stood, canWalk, walkList}
 use Rattle.walk.proofs.Laws.Marks.{paint-length}
 use Rattle.walk.proofs.Laws.Calls.{sizes, sizes-fit, list-refused, list-walks}
-use Rattle.audit.specs.declared.audit.Audited.{Audited}
-use Rattle.audit.specs.declared.audit.Progress.{Progress}
-use Rattle.audit.specs.Audit.{directoryLimit, auditFits, Lowest, none, list, lowestUnheld, walksOf, refusedAt, afterWalks, afterEnds, auditAll}
-use Rattle.audit.specs.Steps.{countedOf, begunOf, nextList, judgedOf, turnOf, passOf, toWalks, concludedOf}
-use Rattle.audit.proofs.Laws.Steps.{turn-refused, turn-walks, turn-tests}
+use Rattle.audit.specs.declared.Audited.{Audited}
+use Rattle.audit.specs.declared.Progress.{Progress}
+use Rattle.audit.specs.Audit.{auditFits, Lowest, none, list, lowestUnheld, walksOf, refusedAt, afterWalks, afterEnds, auditAll}
+use Rattle.audit.specs.Steps.{countedOf, begunOf, nextList, judgedOf, listStepOf, passOf, toWalks, concludedOf}
+use Rattle.audit.proofs.Laws.Steps.{list-step-refused, list-step-walks, list-step-tests}
 
 -- ---- marks stay one a node
 
@@ -41,11 +42,11 @@ list-length ws ms e m = ⊎-elim walks refused (true-or-false (canWalk ws ms e m
 
 -- the walks of a directory, by how the first one comes out
 module _ (ws : List ℕ) (k : ℕ) (e : Ends) (es : List Ends) (ms : List ℕ) where
-  pub walks-on : walkList ws ms e (k + 1) .answer .ok ≡ true → walksOf ws k (e ∷ es) ms ≡ walksOf ws (k + 1) es (walkList ws ms e (k + 1) .marks)
+  pub walks-on : walkList ws ms e (k + 1) .result .ok ≡ true → walksOf ws k (e ∷ es) ms ≡ walksOf ws (k + 1) es (walkList ws ms e (k + 1) .marks)
   unfolding walksOf
   walks-on o = rw o
 
-  pub walks-stop : walkList ws ms e (k + 1) .answer .ok ≡ false → walksOf ws k (e ∷ es) ms ≡ marking (walkList ws ms e (k + 1) .marks) (list k)
+  pub walks-stop : walkList ws ms e (k + 1) .result .ok ≡ false → walksOf ws k (e ∷ es) ms ≡ marking (walkList ws ms e (k + 1) .marks) (list k)
   unfolding walksOf
   walks-stop o = rw o
 
@@ -61,15 +62,15 @@ pub walks-length : (ws : List ℕ) (k : ℕ) (es : List Ends) (ms : List ℕ) �
 unfolding walksOf
 walks-length ws k [] ms = refl
 walks-length ws k (e ∷ es) ms =
-    ⊎-elim (on (walks-length ws (k + 1) es (walkList ws ms e (k + 1) .marks))) stop (true-or-false (walkList ws ms e (k + 1) .answer .ok))
+    ⊎-elim (on (walks-length ws (k + 1) es (walkList ws ms e (k + 1) .marks))) stop (true-or-false (walkList ws ms e (k + 1) .result .ok))
   where
     on : length (walksOf ws (k + 1) es (walkList ws ms e (k + 1) .marks) .marks) ≡ length (walkList ws ms e (k + 1) .marks)
-        → walkList ws ms e (k + 1) .answer .ok ≡ true → length (walksOf ws k (e ∷ es) ms .marks) ≡ length ms
+        → walkList ws ms e (k + 1) .result .ok ≡ true → length (walksOf ws k (e ∷ es) ms .marks) ≡ length ms
     on ih o =
         ap (λ (x : Marking Lowest). length (x .marks)) (walks-on ws k e es ms o)
         ∙ ih ∙ list-length ws ms e (k + 1)
 
-    stop : walkList ws ms e (k + 1) .answer .ok ≡ false → length (walksOf ws k (e ∷ es) ms .marks) ≡ length ms
+    stop : walkList ws ms e (k + 1) .result .ok ≡ false → length (walksOf ws k (e ∷ es) ms .marks) ≡ length ms
     stop o = ap (λ (x : Marking Lowest). length (x .marks)) (walks-stop ws k e es ms o) ∙ list-length ws ms e (k + 1)
 
 -- ---- a pass
@@ -96,15 +97,15 @@ unfolding judgedOf
 judged-off w k r = refl
 
 pass-step : (ws : List ℕ) (e : Ends) (es : List Ends) (ms : List ℕ) (s : Progress) (ms' : List ℕ) (s' : Progress)
-    → turnOf ws ms s e ≡ marking ms' s' → passOf ws (e ∷ es) ms s ≡ passOf ws es ms' s'
+    → listStepOf ws ms s e ≡ marking ms' s' → passOf ws (e ∷ es) ms s ≡ passOf ws es ms' s'
 unfolding passOf
-pass-step ws e es ms s ms' s' t = ap (λ (x : Marking Progress). passOf ws es (x .marks) (x .answer)) t
+pass-step ws e es ms s ms' s' t = ap (λ (x : Marking Progress). passOf ws es (x .marks) (x .result)) t
 
 -- once refused, nothing more is done
 pub pass-refused : (ws : List ℕ) (es : List Ends) (ms : List ℕ) (s : Progress) → isRefused (s .answer) ≡ true → passOf ws es ms s ≡ marking ms s
 unfolding passOf
 pass-refused ws [] ms s r = refl
-pass-refused ws (e ∷ es) ms s r = pass-step ws e es ms s ms s (turn-refused ws ms s e r) ∙ pass-refused ws es ms s r
+pass-refused ws (e ∷ es) ms s r = pass-step ws e es ms s ms s (list-step-refused ws ms s e r) ∙ pass-refused ws es ms s r
 
 -- the ends
 pub pass-tests : (ws : List ℕ) (k n : ℕ) (es : List Ends) (ms : List ℕ) → k + length es ≡ n → n ≤ 64
@@ -114,8 +115,8 @@ pass-tests ws k n [] ms e f = let z : k ≡ n = omega arith in ap (λ (j : ℕ).
 pass-tests ws k n (e ∷ es) ms c f =
     ⊎-elim (on (pass-tests ws (k + 1) n es ms (omega arith) f)) stop (true-or-false (endsHold ws e))
   where
-    turn : (b : Bool) → endsHold ws e ≡ b → turnOf ws ms (going false k) e ≡ marking ms (judgedOf (going false k) b EndsDoNotHold)
-    turn b o = turn-tests ws ms (going false k) e refl refl ∙ ap (λ (t : Bool). marking ms (judgedOf (going false k) t EndsDoNotHold)) o
+    turn : (b : Bool) → endsHold ws e ≡ b → listStepOf ws ms (going false k) e ≡ marking ms (judgedOf (going false k) b EndsDoNotHold)
+    turn b o = list-step-tests ws ms (going false k) e refl refl ∙ ap (λ (t : Bool). marking ms (judgedOf (going false k) t EndsDoNotHold)) o
 
     on : passOf ws es ms (going false (k + 1)) ≡ marking ms (reached EndsDoNotHold false n (lowestUnheld ws (k + 1) es))
         → endsHold ws e ≡ true → passOf ws (e ∷ es) ms (going false k) ≡ marking ms (reached EndsDoNotHold false n (lowestUnheld ws k (e ∷ es)))
@@ -133,23 +134,23 @@ pass-tests ws k n (e ∷ es) ms c f =
 
 -- the walks
 abbrev pub walked : ℕ → Marking Lowest → Marking Progress
-walked n w = marking (w .marks) (reached NoListing true n (w .answer))
+walked n w = marking (w .marks) (reached NoListing true n (w .result))
 
 pub pass-walks : (ws : List ℕ) (k n : ℕ) (es : List Ends) (ms : List ℕ) → k + length es ≡ n → n ≤ 64
     → passOf ws es ms (going true k) ≡ walked n (walksOf ws k es ms)
 unfolding passOf walksOf
 pass-walks ws k n [] ms e f = let z : k ≡ n = omega arith in ap (λ (j : ℕ). marking ms (going true j)) z
 pass-walks ws k n (e ∷ es) ms c f =
-    ⊎-elim (on (pass-walks ws (k + 1) n es (walkList ws ms e (k + 1) .marks) (omega arith) f)) stop (true-or-false (walkList ws ms e (k + 1) .answer .ok))
+    ⊎-elim (on (pass-walks ws (k + 1) n es (walkList ws ms e (k + 1) .marks) (omega arith) f)) stop (true-or-false (walkList ws ms e (k + 1) .result .ok))
   where
-    turn : (b : Bool) → walkList ws ms e (k + 1) .answer .ok ≡ b → turnOf ws ms (going true k) e ≡ marking (walkList ws ms e (k + 1) .marks) (judgedOf (going true k) b NoListing)
+    turn : (b : Bool) → walkList ws ms e (k + 1) .result .ok ≡ b → listStepOf ws ms (going true k) e ≡ marking (walkList ws ms e (k + 1) .marks) (judgedOf (going true k) b NoListing)
     turn b o =
         let w = walkList ws ms e (k + 1) in
-        turn-walks ws ms (going true k) e refl refl (w .marks) (w .answer) (k + 1) (sym (next-list k (omega arith))) refl
+        list-step-walks ws ms (going true k) e refl refl (w .marks) (w .result) (k + 1) (sym (next-list k (omega arith))) refl
         ∙ ap (λ (t : Bool). marking (w .marks) (judgedOf (going true k) t NoListing)) o
 
     on : passOf ws es (walkList ws ms e (k + 1) .marks) (going true (k + 1)) ≡ walked n (walksOf ws (k + 1) es (walkList ws ms e (k + 1) .marks))
-        → walkList ws ms e (k + 1) .answer .ok ≡ true → passOf ws (e ∷ es) ms (going true k) ≡ walked n (walksOf ws k (e ∷ es) ms)
+        → walkList ws ms e (k + 1) .result .ok ≡ true → passOf ws (e ∷ es) ms (going true k) ≡ walked n (walksOf ws k (e ∷ es) ms)
     on ih o =
         let w = walkList ws ms e (k + 1) in
         pass-step ws e es ms (going true k) (w .marks) (going true (k + 1))
@@ -157,7 +158,7 @@ pass-walks ws k n (e ∷ es) ms c f =
         ∙ ih
         ∙ ap (walked n) (sym (walks-on ws k e es ms o))
 
-    stop : walkList ws ms e (k + 1) .answer .ok ≡ false → passOf ws (e ∷ es) ms (going true k) ≡ walked n (walksOf ws k (e ∷ es) ms)
+    stop : walkList ws ms e (k + 1) .result .ok ≡ false → passOf ws (e ∷ es) ms (going true k) ≡ walked n (walksOf ws k (e ∷ es) ms)
     stop o =
         let w = walkList ws ms e (k + 1) in
         let s' = reached NoListing true n (list k) in
@@ -170,9 +171,9 @@ pass-walks ws k n (e ∷ es) ms c f =
 -- the steps one after the other
 abbrev pub walkSteps : List ℕ → List Ends → Marking Progress → Marking Audited
 walkSteps ws es t =
-    let b = toWalks (t .marks) (t .answer) in
-    let w = passOf ws es (b .marks) (b .answer) in
-    concludedOf ws (w .marks) (w .answer)
+    let b = toWalks (t .marks) (t .result) in
+    let w = passOf ws es (b .marks) (b .result) in
+    concludedOf ws (w .marks) (w .result)
 
 abbrev pub stepsOf : List ℕ → List Ends → List ℕ → Marking Audited
 stepsOf ws es ms = walkSteps ws es (passOf ws es ms (begunOf (length ws) (length ms) (length es)))
@@ -188,7 +189,7 @@ steps-refused : (ws : List ℕ) (es : List Ends) (ms : List ℕ) (r : Refusal) (
 unfolding toWalks concludedOf
 steps-refused ws es ms r k =
     let s = reached r false 0 (list k) in
-    ap (λ (x : Marking Progress). concludedOf ws (x .marks) (x .answer)) (pass-refused ws es ms s refl)
+    ap (λ (x : Marking Progress). concludedOf ws (x .marks) (x .result)) (pass-refused ws es ms s refl)
 
 concluded-is : (ws : List ℕ) (ms : List ℕ) (n : ℕ) (l : Lowest) → sizesFit ws ms ≡ true
     → concludedOf ws ms (reached NoListing true n l) ≡ afterWalks ws ms l
@@ -198,7 +199,7 @@ concluded-is ws ms n (list k) s = refl
 
 module _ (ws : List ℕ) (es : List Ends) (ms : List ℕ) where
   small : auditFits ws es ms ≡ true → (sizesFit ws ms ≡ true) × (length es ≤ 64)
-  unfolding auditFits directoryLimit
+  unfolding auditFits directoryFits directoryLimit
   small h =
       let a = both (sizesFit ws ms) (leb (length es) 64) h in
       (a .0, leb-true (length es) 64 (a .1))
@@ -212,8 +213,8 @@ module _ (ws : List ℕ) (es : List Ends) (ms : List ℕ) where
       let p : passOf ws es z (going true 0) ≡ walked (length es) w = pass-walks ws 0 (length es) es z (omega arith) (a .1) in
       let t = sizes ws ms (a .0) in
       let long : length (w .marks) ≡ length ws = walks-length ws 0 es z ∙ length-replicate {A = ℕ} (length ms) 0 ∙ t .long in
-      ap (λ (x : Marking Progress). concludedOf ws (x .marks) (x .answer)) p
-      ∙ concluded-is ws (w .marks) (length es) (w .answer) (sizes-fit ws (w .marks) (t .fits) long)
+      ap (λ (x : Marking Progress). concludedOf ws (x .marks) (x .result)) p
+      ∙ concluded-is ws (w .marks) (length es) (w .result) (sizes-fit ws (w .marks) (t .fits) long)
 
   steps-ends : auditFits ws es ms ≡ true → (l : Lowest)
       → walkSteps ws es (marking ms (reached EndsDoNotHold false (length es) l)) ≡ afterEnds ws es ms l
@@ -247,8 +248,8 @@ module _ (ws : List ℕ) (es : List Ends) (ms : List ℕ) where
       → (m4 : List ℕ) (r : Audited) → marking m4 r ≡ concludedOf ws m3 s3
       → marking m4 r ≡ auditAll ws es ms
   steps-made n en s0 e0 m1 s1 e1 m2 s2 e2 m3 s3 e3 m4 r e4 =
-      e4 ∙ ap (λ (x : Marking Progress). concludedOf ws (x .marks) (x .answer)) e3
-      ∙ ap (λ (x : Marking Progress). let w = passOf ws es (x .marks) (x .answer) in concludedOf ws (w .marks) (w .answer)) e2
+      e4 ∙ ap (λ (x : Marking Progress). concludedOf ws (x .marks) (x .result)) e3
+      ∙ ap (λ (x : Marking Progress). let w = passOf ws es (x .marks) (x .result) in concludedOf ws (w .marks) (w .result)) e2
       ∙ ap (walkSteps ws es) e1
       ∙ ap (λ (s : Progress). walkSteps ws es (passOf ws es ms s)) (e0 ∙ ap (begunOf (length ws) (length ms)) en)
       ∙ steps-audit

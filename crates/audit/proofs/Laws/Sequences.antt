@@ -9,8 +9,8 @@ use lib.ListN.{length, getD}
 use Rattle.words.specs.Listing.{All, Off, Distinct, Apart}
 use Rattle.words.specs.Afresh.{joined}
 use Rattle.words.proofs.Laws.Nodes.{all-map, all-both, all-append, all-left, all-right, distinct-append, distinct-right, distinct-apart}
-use Rattle.standing.specs.declared.ends.Ends.{Ends}
-use Rattle.standing.proofs.Laws.Holds.{listing-ends-hold}
+use Rattle.ends.specs.declared.Ends.{Ends}
+use Rattle.ends.proofs.Laws.Holds.{listing-ends-hold}
 use Rattle.walk.specs.Marks.{elem, isMarked, paint}
 use Rattle.walk.proofs.Laws.Marks.{elem-append, paint-length, paint-on, paint-off, marked-or-met}
 use Rattle.audit.specs.Listed.{AllHold, Listed, ApartFrom, AllApart, paintAll}

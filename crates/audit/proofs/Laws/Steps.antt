@@ -9,49 +9,49 @@ use lib.Dec.{leb}
 use lib.ListN.{length, getD, drop}
 use lib.Seq.{drop-cons, drop-length}
 use borrow.Author.Tests.{le-leb, lt-leb, leb-true, leb-false}
-use Rattle.standing.specs.declared.answer.Refusal.the-variants.{EndsDoNotHold, NoListing}
-use Rattle.standing.specs.declared.ends.Ends.{Ends}
-use Rattle.standing.specs.Answer.{isRefused}
-use Rattle.standing.specs.Ends.{endsOf, emptyEnds}
-use Rattle.standing.specs.Tests.{endsHold}
+use Rattle.answers.specs.declared.Refusal.the-variants.{EndsDoNotHold, NoListing}
+use Rattle.ends.specs.declared.Ends.{Ends}
+use Rattle.answers.specs.Answer.{isRefused}
+use Rattle.ends.specs.Ends.{endsOf, emptyEnds}
+use Rattle.ends.specs.Tests.{endsHold}
 use Rattle.walk.specs.Marks.{Marking, marking}
 use Rattle.walk.specs.declared.step.Stood.{Stood}
 use Rattle.walk.specs.Calls.{walkList}
-use Rattle.audit.specs.declared.audit.Progress.{Progress}
+use Rattle.audit.specs.declared.Progress.{Progress}
 use Rattle.audit.specs.Audit.{zipEnds}
-use Rattle.audit.specs.Steps.{nextList, judgedOf, turnOf, passOf}
+use Rattle.audit.specs.Steps.{nextList, judgedOf, listStepOf, passOf}
 
 -- ---- the step of one list, by what it finds
 
 module _ (ws ms : List ℕ) (s : Progress) (e : Ends) where
-  pub turn-refused : isRefused (s .answer) ≡ true → turnOf ws ms s e ≡ marking ms s
-  unfolding turnOf
-  turn-refused r = rw r
+  pub list-step-refused : isRefused (s .answer) ≡ true → listStepOf ws ms s e ≡ marking ms s
+  unfolding listStepOf
+  list-step-refused r = rw r
 
-  pub turn-walks : isRefused (s .answer) ≡ false → s .walking ≡ true
+  pub list-step-walks : isRefused (s .answer) ≡ false → s .walking ≡ true
       → (ms' : List ℕ) (r : Stood) (m : ℕ) → m ≡ nextList (s .list) → marking ms' r ≡ walkList ws ms e m
-      → turnOf ws ms s e ≡ marking ms' (judgedOf s (r .ok) NoListing)
-  unfolding turnOf
-  turn-walks n w ms' r m k l =
+      → listStepOf ws ms s e ≡ marking ms' (judgedOf s (r .ok) NoListing)
+  unfolding listStepOf
+  list-step-walks n w ms' r m k l =
       let l' = l ∙ ap (walkList ws ms e) k in
       let u = walkList ws ms e (nextList (s .list)) in
       rw n
-      (ap (λ (b : Bool). cond b (marking (u .marks) (judgedOf s (u .answer .ok) NoListing)) (marking ms (judgedOf s (endsHold ws e) EndsDoNotHold))) w
-      ∙ ap (λ (x : Marking Stood). marking (x .marks) (judgedOf s (x .answer .ok) NoListing)) (sym l'))
+      (ap (λ (b : Bool). cond b (marking (u .marks) (judgedOf s (u .result .ok) NoListing)) (marking ms (judgedOf s (endsHold ws e) EndsDoNotHold))) w
+      ∙ ap (λ (x : Marking Stood). marking (x .marks) (judgedOf s (x .result .ok) NoListing)) (sym l'))
 
-  pub turn-tests : isRefused (s .answer) ≡ false → s .walking ≡ false → turnOf ws ms s e ≡ marking ms (judgedOf s (endsHold ws e) EndsDoNotHold)
-  unfolding turnOf
-  turn-tests n w = rw (n, w)
+  pub list-step-tests : isRefused (s .answer) ≡ false → s .walking ≡ false → listStepOf ws ms s e ≡ marking ms (judgedOf s (endsHold ws e) EndsDoNotHold)
+  unfolding listStepOf
+  list-step-tests n w = rw (n, w)
 
 -- ---- a pass, a list at a time
 
 pub pass-next : (ws : List ℕ) (es : List Ends) (i : ℕ) (ms : List ℕ) (s : Progress) (ms' : List ℕ) (s' : Progress) → i < length es
-    → marking ms' s' ≡ turnOf ws ms s (getD es i emptyEnds) → passOf ws (drop i es) ms s ≡ passOf ws (drop (i + 1) es) ms' s'
+    → marking ms' s' ≡ listStepOf ws ms s (getD es i emptyEnds) → passOf ws (drop i es) ms s ≡ passOf ws (drop (i + 1) es) ms' s'
 unfolding passOf
 pass-next ws es i ms s ms' s' h t =
     ap (λ (l : List Ends). passOf ws l ms s) (drop-cons es i emptyEnds h)
-    ∙ ap (λ (k : ℕ). let u = turnOf ws ms s (getD es i emptyEnds) in passOf ws (drop k es) (u .marks) (u .answer)) (sym (add-one i))
-    ∙ ap (λ (x : Marking Progress). passOf ws (drop (i + 1) es) (x .marks) (x .answer)) (sym t)
+    ∙ ap (λ (k : ℕ). let u = listStepOf ws ms s (getD es i emptyEnds) in passOf ws (drop k es) (u .marks) (u .result)) (sym (add-one i))
+    ∙ ap (λ (x : Marking Progress). passOf ws (drop (i + 1) es) (x .marks) (x .result)) (sym t)
 
 pub pass-done : (ws : List ℕ) (es : List Ends) (ms : List ℕ) (s : Progress) → passOf ws (drop (length es) es) ms s ≡ marking ms s
 unfolding passOf
@@ -91,12 +91,12 @@ in-both a b n i few h = go (leb a b) refl few
 -- a pass over heads and tails, from list i on: one more list, and no more
 module _ (ws hs ts : List ℕ) (n : ℕ) (few : n ≡ least (length hs) (length ts)) (i : ℕ) (ms : List ℕ) (s : Progress) where
   pub pass-more : i < n → (e : Ends) → e ≡ endsOf (record { 0 = getD hs i 0 }) (record { 0 = getD ts i 0 })
-      → (ms' : List ℕ) (s' : Progress) → marking ms' s' ≡ turnOf ws ms s e
+      → (ms' : List ℕ) (s' : Progress) → marking ms' s' ≡ listStepOf ws ms s e
       → passOf ws (drop i (zipEnds hs ts)) ms s ≡ passOf ws (drop (i + 1) (zipEnds hs ts)) ms' s'
   pass-more h e is ms' s' t =
       let l = zip-length hs ts in
       let r : i < length (zipEnds hs ts) = omega arith in
-      pass-next ws (zipEnds hs ts) i ms s ms' s' r (t ∙ ap (turnOf ws ms s) (is ∙ sym (zip-at hs ts i r)))
+      pass-next ws (zipEnds hs ts) i ms s ms' s' r (t ∙ ap (listStepOf ws ms s) (is ∙ sym (zip-at hs ts i r)))
 
   pub pass-ends : i ≤ n → n ≤ i → passOf ws (drop i (zipEnds hs ts)) ms s ≡ marking ms s
   pass-ends h k =

@@ -7,8 +7,7 @@ use native.Mathlib.Omega.{arith}
 use native.Mathlib.Numerals.{add-one}
 use lib.Dec.{eqb}
 use lib.ListN.{length, getD}
-use borrow.Author.Tests.{leb-true}
-use Rattle.words.specs.Names.{isLinked, poolFits}
+use Rattle.words.specs.Names.{isLinked}
 use Rattle.words.proofs.Laws.Names.{fits-small}
 use Rattle.walk.specs.Marks.{isMarked, sizesFit}
 use Rattle.walk.proofs.Laws.Calls.{sizes}

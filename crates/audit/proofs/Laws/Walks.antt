@@ -13,8 +13,8 @@ use Rattle.words.specs.Listing.{All, Distinct, Apart, Listing}
 use Rattle.words.specs.Afresh.{joined}
 use Rattle.words.proofs.Laws.Cases.{true-or-false}
 use Rattle.words.proofs.Laws.Nodes.{all-append, all-left, all-right, apart-sym, distinct-append, distinct-right, distinct-apart}
-use Rattle.standing.specs.declared.ends.Ends.{Ends}
-use Rattle.standing.specs.Tests.{endsHold}
+use Rattle.ends.specs.declared.Ends.{Ends}
+use Rattle.ends.specs.Tests.{endsHold}
 use Rattle.walk.specs.Marks.{isMarked, paint, Marking, marking}
 use Rattle.walk.specs.declared.step.Stood.{Stood}
 use Rattle.walk.specs.Calls.{walkList}
@@ -104,7 +104,7 @@ module _ (ws : List ℕ) (k : ℕ) (e : Ends) (es : List Ends) (ms xs : List ℕ
 
   pub one-walk : walksOf ws k (e ∷ es) ms ≡ walksOf ws (k + 1) es (paint ms (k + 1) xs)
   one-walk =
-      walks-on ws k e es ms (ap (λ (x : Marking Stood). x .answer .ok) comes)
+      walks-on ws k e es ms (ap (λ (x : Marking Stood). x .result .ok) comes)
       ∙ ap (λ (x : Marking Stood). walksOf ws (k + 1) es (x .marks)) comes
 
   -- what was off the marks and off that list is off the marks now
@@ -147,16 +147,16 @@ accepted-more ws k e es ms xs n l c a =
       distinct = distinct-append xs (joined (a .nodes)) (l .distinct) (a .distinct) (apart-sym (joined (a .nodes)) xs (b .1));
     }
 
-pub walks-sound : (ws : List ℕ) (k : ℕ) (es : List Ends) (ms : List ℕ) → walksOf ws k es ms .answer ≡ none → Accepted ws es ms
+pub walks-sound : (ws : List ℕ) (k : ℕ) (es : List Ends) (ms : List ℕ) → walksOf ws k es ms .result ≡ none → Accepted ws es ms
 walks-sound ws k [] ms h = record { nodes = []; listed = tt; clean = tt; distinct = tt }
 walks-sound ws k (e ∷ es) ms h =
     ⊎-elim
     (λ o. let w = list-sound ws ms e (k + 1) o in
     accepted-more ws k e es ms (w .nodes) (w .long) (w .listing) (w .clean)
     (walks-sound ws (k + 1) es (paint ms (k + 1) (w .nodes))
-    (ap (λ (x : Marking Lowest). x .answer) (sym (one-walk ws k e es ms (w .nodes) (w .fits) (w .long) (w .listing) (w .clean))) ∙ h)))
-    (λ o. absurd (list-none k (ap (λ (x : Marking Lowest). x .answer) (sym (walks-stop ws k e es ms o)) ∙ h)))
-    (true-or-false (walkList ws ms e (k + 1) .answer .ok))
+    (ap (λ (x : Marking Lowest). x .result) (sym (one-walk ws k e es ms (w .nodes) (w .fits) (w .long) (w .listing) (w .clean))) ∙ h)))
+    (λ o. absurd (list-none k (ap (λ (x : Marking Lowest). x .result) (sym (walks-stop ws k e es ms o)) ∙ h)))
+    (true-or-false (walkList ws ms e (k + 1) .result .ok))
 
 -- all lists before list j have listings off the marks that share no node, and that list has none that is off them too
 pub record Stopped (ws : List ℕ) (k : ℕ) (es : List Ends) (ms : List ℕ) (j : ℕ) : Type 0 where
@@ -171,10 +171,10 @@ pub record Stopped (ws : List ℕ) (k : ℕ) (es : List Ends) (ms : List ℕ) (j
 pub walks-refuse : (ws : List ℕ) (k : ℕ) (before : List Ends) (e : Ends) (after : List Ends) (ms : List ℕ) (xss : List (List ℕ))
     → poolFits (length ws) ≡ true → length ms ≡ length ws → Listed ws before xss → Clean ms (joined xss) → Distinct (joined xss)
     → ((xs : List ℕ) → Listing bitXor ws (e .head .0) (e .tail .0) xs → Clean ms xs → Apart xs (joined xss) → ⊥)
-    → walksOf ws k (before ++ e ∷ after) ms .answer ≡ list (k + length before)
+    → walksOf ws k (before ++ e ∷ after) ms .result ≡ list (k + length before)
 walks-refuse ws k [] e after ms [] f n l c d none-fits =
     ⊎-elim (λ o. let w = list-sound ws ms e (k + 1) o in absurd (none-fits (w .nodes) (w .listing) (w .clean) (apart-nil (w .nodes))))
-    (λ o. ap (λ (x : Marking Lowest). x .answer) (walks-stop ws k e after ms o) ∙ ap list (first k)) (true-or-false (walkList ws ms e (k + 1) .answer .ok))
+    (λ o. ap (λ (x : Marking Lowest). x .result) (walks-stop ws k e after ms o) ∙ ap list (first k)) (true-or-false (walkList ws ms e (k + 1) .result .ok))
   where
     apart-nil : (xs : List ℕ) → Apart xs []
     apart-nil xs = apart-sym [] xs tt
@@ -184,7 +184,7 @@ walks-refuse ws k (b ∷ before) e after ms (xs ∷ xss) f n l c d none-fits =
     let c1 = all-left (λ x. isMarked ms x ≡ false) xs (joined xss) c in
     let c2 = all-right (λ x. isMarked ms x ≡ false) xs (joined xss) c in
     let a = apart-sym xs (joined xss) (distinct-apart xs (joined xss) d) in
-    ap (λ (x : Marking Lowest). x .answer) (one-walk ws k b (before ++ e ∷ after) ms xs f n (l .0) c1)
+    ap (λ (x : Marking Lowest). x .result) (one-walk ws k b (before ++ e ∷ after) ms xs f n (l .0) c1)
     ∙ walks-refuse ws (k + 1) before e after (paint ms (k + 1) xs) xss f (paint-length ms (k + 1) xs ∙ n) (l .1)
     (still-clean ws k b before ms xs f n (l .0) c1 (joined xss) (listed-ranged ws before xss (l .1)) c2 a)
     (distinct-right xs (joined xss) d)
@@ -194,19 +194,19 @@ walks-refuse ws k (b ∷ before) e after ms (xs ∷ xss) f n l c d none-fits =
     ∙ ap list (next k (length before))
 
 pub walks-lowest : (ws : List ℕ) (k : ℕ) (es : List Ends) (ms : List ℕ) (j : ℕ) → poolFits (length ws) ≡ true → length ms ≡ length ws
-    → walksOf ws k es ms .answer ≡ list j → Stopped ws k es ms j
+    → walksOf ws k es ms .result ≡ list j → Stopped ws k es ms j
 unfolding walksOf accepted-more
 walks-lowest ws k [] ms j f n h = absurd (list-none j (sym h))
 walks-lowest ws k (e ∷ es) ms j f n h =
     ⊎-elim
     (λ o. let w = list-sound ws ms e (k + 1) o in
     on w (walks-lowest ws (k + 1) es (paint ms (k + 1) (w .nodes)) j f (paint-length ms (k + 1) (w .nodes) ∙ n)
-    (ap (λ (x : Marking Lowest). x .answer) (sym (one-walk ws k e es ms (w .nodes) f n (w .listing) (w .clean))) ∙ h)))
-    stop (true-or-false (walkList ws ms e (k + 1) .answer .ok))
+    (ap (λ (x : Marking Lowest). x .result) (sym (one-walk ws k e es ms (w .nodes) f n (w .listing) (w .clean))) ∙ h)))
+    stop (true-or-false (walkList ws ms e (k + 1) .result .ok))
   where
-    stop : walkList ws ms e (k + 1) .answer .ok ≡ false → Stopped ws k (e ∷ es) ms j
+    stop : walkList ws ms e (k + 1) .result .ok ≡ false → Stopped ws k (e ∷ es) ms j
     stop o =
-        let z : k ≡ j = list-list k j (ap (λ (x : Marking Lowest). x .answer) (sym (walks-stop ws k e es ms o)) ∙ h) in
+        let z : k ≡ j = list-list k j (ap (λ (x : Marking Lowest). x .result) (sym (walks-stop ws k e es ms o)) ∙ h) in
         record {
           before = [];
           ends = e;
@@ -214,7 +214,7 @@ walks-lowest ws k (e ∷ es) ms j f n h =
           parts = refl;
           number = sym z ∙ first k;
           lower = record { nodes = []; listed = tt; clean = tt; distinct = tt };
-          fails = λ xs l c a. false-true (sym o ∙ ap (λ (x : Marking Stood). x .answer .ok) (list-accepts ws ms e (k + 1) xs f n (no-zero k) l c));
+          fails = λ xs l c a. false-true (sym o ∙ ap (λ (x : Marking Stood). x .result .ok) (list-accepts ws ms e (k + 1) xs f n (no-zero k) l c));
         }
 
     on : (w : Walked ws ms e (k + 1)) → Stopped ws (k + 1) es (paint ms (k + 1) (w .nodes)) j → Stopped ws k (e ∷ es) ms j

@@ -1,16 +1,15 @@
 -- The mirror: ends exchanged, neighbours exchanged, the sequence reversed. Assumes nothing.
-use mathlib.Core.Path.{_≡_, refl, sym, ap, _∙_}
-use mathlib.Core.List.{List, [], _∷_, _++_, reverse, reverse-reverse}
+use mathlib.Core.Path.{_≡_, refl, sym, ap, subst, _∙_}
+use mathlib.Core.List.{List, reverse, reverse-reverse}
 use Prim.Native.Nat.{ℕ}
-use lib.Bits.{bitXor}
-use Rattle.words.specs.Names.{name}
-use Rattle.words.specs.Listing.{front, back, Listing}
+use Rattle.words.specs.Listing.{All}
+use Rattle.words.proofs.Laws.Nodes.{all-reverse}
 use Rattle.words.proofs.Laws.Chain.{front-reverse, back-reverse}
-use Rattle.words.proofs.Laws.Listing.{xor-listing-reverse}
-use Rattle.standing.specs.declared.ends.Ends.{Ends}
-use Rattle.standing.specs.Ends.{turned}
-use Rattle.standing.proofs.Laws.Stands.{turned-at}
-use Rattle.cursor.specs.declared.cursor.Cursor.{Cursor}
+use Rattle.links.proofs.Laws.XorListing.{xor-listing-reverse}
+use Rattle.ends.specs.declared.Ends.{Ends}
+use Rattle.ends.specs.Ends.{turned}
+use Rattle.ends.proofs.Laws.Stands.{turned-at}
+use Rattle.cursor.specs.declared.Cursor.{Cursor}
 use Rattle.cursor.specs.Cursor.{turnedCursor}
 use Rattle.cursor.specs.Plain.{Place, at, atNull, nodes, mirror, TrueAt, Sound}
 
@@ -21,6 +20,13 @@ mirror-nodes (atNull xs) = refl
 pub mirror-mirror : (z : Place) → mirror (mirror z) ≡ z
 mirror-mirror (at L x R) = rw (reverse-reverse L, reverse-reverse R)
 mirror-mirror (atNull xs) = ap atNull (reverse-reverse xs)
+
+-- what holds of every node holds of every node of the mirror, and back
+pub all-mirror : (P : ℕ → Type 0) (z : Place) → All P (nodes z) → All P (nodes (mirror z))
+all-mirror P z a = rw (mirror-nodes z) (all-reverse P (nodes z) a)
+
+pub all-unmirror : (P : ℕ → Type 0) (z : Place) → All P (nodes (mirror z)) → All P (nodes z)
+all-unmirror P z a = subst (λ (y : Place). All P (nodes y)) (mirror-mirror z) (all-mirror P (mirror z) a)
 
 pub true-mirror : (c : Cursor) (z : Place) → TrueAt c z → TrueAt (turnedCursor c) (mirror z)
 true-mirror c (at L x R) t = (t .0, t .2 ∙ sym (back-reverse 0 R), t .1 ∙ sym (front-reverse 0 L))

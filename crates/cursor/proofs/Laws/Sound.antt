@@ -1,21 +1,20 @@
 -- A true cursor on a listing passes every test, so that no such call is refused 4 or 5. Assumes nothing.
-use mathlib.Core.Path.{_≡_, refl, sym, ap, _∙_}
-use mathlib.Core.Bool.{Bool, true, false, cond}
-use mathlib.Core.List.{List, [], _∷_, _++_}
+use mathlib.Core.Path.{_≡_, _∙_}
+use mathlib.Core.Bool.{true}
+use mathlib.Core.List.{List}
 use Prim.Native.Nat.{ℕ}
 use lib.Bits.{bitXor}
 use lib.ListN.{length}
 use Rattle.words.specs.Names.{poolFits}
-use Rattle.words.specs.Listing.{front, back, Listing}
-use Rattle.standing.specs.declared.answer.Answer.the-variants.{Done}
-use Rattle.standing.specs.declared.ends.Ends.{Ends}
-use Rattle.standing.specs.Ends.{isEmpty}
-use Rattle.standing.specs.Tests.{endsHold, endsTest, stands}
-use Rattle.standing.proofs.Laws.Holds.{listing-ends-hold}
-use Rattle.standing.proofs.Laws.Stands.{stands-at, stands-null}
-use Rattle.cursor.specs.declared.cursor.Cursor.{Cursor}
+use Rattle.words.specs.Listing.{Listing}
+use Rattle.answers.specs.declared.Answer.the-variants.{Done}
+use Rattle.ends.specs.declared.Ends.{Ends}
+use Rattle.ends.specs.Tests.{endsTest}
+use Rattle.ends.proofs.Laws.Holds.{listing-ends-hold}
+use Rattle.ends.proofs.Laws.Stands.{stands-at, stands-null}
+use Rattle.cursor.specs.declared.Cursor.{Cursor}
 use Rattle.cursor.specs.Cursor.{cursorStands, standTest, pairTest}
-use Rattle.cursor.specs.Plain.{Place, at, atNull, nodes, TrueAt, Sound}
+use Rattle.cursor.specs.Plain.{Place, at, atNull, nodes, Sound}
 
 pub sound-stands : (ws : List ℕ) (e : Ends) (c : Cursor) (z : Place) → Sound ws e c z → cursorStands ws e c ≡ true
 sound-stands ws e c (at L x R) s =

@@ -1,5 +1,5 @@
 -- The ends of a list whose node at the cursor gives way to another, or to none. Assumes nothing.
-use mathlib.Core.Path.{_≡_, refl, sym, ap, _∙_}
+use mathlib.Core.Path.{_≡_, refl, sym, _∙_}
 use mathlib.Core.Logic.{_≢_}
 use mathlib.Core.Bool.{cond}
 use mathlib.Core.List.{List, [], _∷_, _++_}
@@ -8,10 +8,10 @@ use lib.Dec.{eqb}
 use borrow.Author.Tests.{eq-eqb}
 use Rattle.words.specs.declared.names.Name.{Name}
 use Rattle.words.specs.Names.{name}
-use Rattle.words.specs.Listing.{All, Off, Distinct, front, back}
+use Rattle.words.specs.Listing.{All, Off, front, back}
 use Rattle.words.proofs.Laws.Nodes.{all-right, all-left, all-append}
 use Rattle.words.proofs.Laws.Chain.{back-append, lastOf, back-last, all-last}
-use Rattle.standing.proofs.Laws.Holds.{name-null, name-other}
+use Rattle.ends.proofs.Laws.Holds.{name-null, name-other}
 
 -- the head: v takes the place of x, if that was the first
 pub head-swap : (L : List ℕ) (x : ℕ) (R : List ℕ) (head current v : Name) → Off x L → head .0 ≡ front (L ++ x ∷ R) 0 → current .0 ≡ name x

@@ -6,22 +6,16 @@ use Rattle.garbage.proofs.cases.Statement.{statement}
 use Rattle.garbage.proofs.cases.Tie as tie
 
 abbrev Inv-loop : tie.InvT-loop
-Inv-loop input l₀ i₀ l i = Unit {0}
+Inv-loop input from₀ i₀ from i = Unit {0}
 
 abbrev μ-loop : tie.MeasureT-loop
-μ-loop input l₀ i₀ l i = length input - i
-
-new-requires : tie.Need-new-requires Inv-loop μ-loop
-new-requires c κs = search needs
+μ-loop input from₀ i₀ from i = length input - i
 
 loop-holds : tie.Need-loop-holds Inv-loop μ-loop
 loop-holds c = search needs
 
-shared-slice-read-byte : tie.Need-shared-slice-read-byte Inv-loop μ-loop
-shared-slice-read-byte c = search needs
-
-byte-requires : tie.Need-byte-requires Inv-loop μ-loop
-byte-requires c κs = search needs
+ended-requires : tie.Need-ended-requires Inv-loop μ-loop
+ended-requires c κs = search needs
 
 add-i : tie.Need-add-i Inv-loop μ-loop
 add-i c = search needs
@@ -38,14 +32,4 @@ returns c = search needs
 pub cases-spec : {M : Type 1} → statement M
 cases-spec =
     tie.close
-    (tie.spec
-    Inv-loop
-    μ-loop
-    new-requires
-    loop-holds
-    shared-slice-read-byte
-    byte-requires
-    add-i
-    loop-less
-    loop-again
-    returns)
+    (tie.spec Inv-loop μ-loop loop-holds ended-requires add-i loop-less loop-again returns)

@@ -1,28 +1,22 @@
 -- A desk that agrees with its history, after one list has changed, or two. Assumes nothing.
-use mathlib.Core.Path.{_≡_, refl, sym, ap, _∙_}
+use mathlib.Core.Path.{_≡_, sym, _∙_}
 use mathlib.Core.Logic.{_≢_, ⊎-elim}
-use mathlib.Core.List.{List, []}
+use mathlib.Core.List.{List, [], _++_}
 use Prim.Native.Nat.{ℕ, _+_, _<_, _≤_}
 use native.Mathlib.Omega.{arith}
-use lib.Bits.{bitXor}
-use lib.Dec.{ltb}
 use lib.ListN.{length, getD, set, length-set}
 use lib.Seq.{getD-set-same, getD-set-other, set-getD}
-use Rattle.words.specs.Names.{isLinked}
-use Rattle.words.specs.Listing.{Apart, Listing}
+use Rattle.words.specs.Listing.{Apart}
 use Rattle.words.proofs.Laws.Cases.{same-or-not}
-use Rattle.standing.specs.declared.ends.Ends.{Ends}
-use Rattle.standing.specs.Ends.{emptyEnds}
-use Rattle.cursor.specs.declared.cursor.Cursor.{Cursor}
-use Rattle.cursor.specs.Cursor.{nullCursor}
 use Rattle.cursor.specs.Plain.{Place, atNull, nodes, Sound}
-use Rattle.edit.specs.Plain.{linkedIn}
-use Rattle.desk.specs.declared.desk.Desk.{Desk}
-use Rattle.desk.specs.declared.desk.Row.{Row}
-use Rattle.desk.specs.Step.{rowAt, putRow, putWords}
+use Rattle.cursor.specs.Alone.{LeavesAlone}
+use Rattle.cursor.specs.Does.{linkedIn}
+use Rattle.splice.proofs.Laws.Common.{apart-both}
+use Rattle.desk.specs.declared.Row.{Row}
+use Rattle.desk.specs.Step.{Desk, freshRow, rowAt, putRow, putWords}
 use Rattle.history.specs.History.{History, placeAt, times, onLists, held, isHeld}
 use Rattle.history.specs.Follows.{Agrees}
-use Rattle.history.proofs.Laws.Counts.{times-apart, on-set, on-one, on-two}
+use Rattle.history.proofs.Laws.Counts.{times-apart, on-set, on-two}
 use Rattle.history.proofs.Laws.Counted.{Counted}
 
 module _ (n : ℕ) (d : Desk) (h : History) (g : Agrees n d h) where
@@ -53,15 +47,8 @@ module _ (n : ℕ) (d : Desk) (h : History) (g : Agrees n d h) where
     history' z y st = record { places = set (set (h .places) m y) l z; stranded = st }
 
     -- what is at the other places stays
-    ends-else : (ws : List ℕ) (r q : Row) (i : ℕ) → i ≢ l → i ≢ m → getD (desk' ws r q .ends) i emptyEnds ≡ getD (d .ends) i emptyEnds
-    ends-else ws r q i p k =
-        getD-set-other (set (d .ends) m (q .ends)) l i (r .ends) emptyEnds p ∙ getD-set-other (d .ends) m i (q .ends) emptyEnds k
-
-    cursors-else : (ws : List ℕ) (r q : Row) (i : ℕ) → i ≢ l → i ≢ m
-        → getD (desk' ws r q .cursors) i (nullCursor emptyEnds) ≡ getD (d .cursors) i (nullCursor emptyEnds)
-    cursors-else ws r q i p k =
-        getD-set-other (set (d .cursors) m (q .cursor)) l i (r .cursor) (nullCursor emptyEnds) p
-        ∙ getD-set-other (d .cursors) m i (q .cursor) (nullCursor emptyEnds) k
+    rows-else : (ws : List ℕ) (r q : Row) (i : ℕ) → i ≢ l → i ≢ m → rowAt (desk' ws r q) i ≡ rowAt d i
+    rows-else ws r q i p k = getD-set-other (set (d .lists) m q) l i r freshRow p ∙ getD-set-other (d .lists) m i q freshRow k
 
     places-else : (z y : Place) (st : List ℕ) (i : ℕ) → i ≢ l → i ≢ m → placeAt (history' z y st) i ≡ placeAt h i
     places-else z y st i p k =
@@ -75,8 +62,7 @@ module _ (n : ℕ) (d : Desk) (h : History) (g : Agrees n d h) where
           → Sound ws (rowAt (desk' ws r q) l .ends) (rowAt (desk' ws r q) l .cursor) (placeAt (history' z y st) l)
       at-named s =
           rw (
-            getD-set-same (set (d .ends) m (q .ends)) l (r .ends) emptyEnds (rw (length-set (d .ends) m (q .ends), g .lists) a),
-            getD-set-same (set (d .cursors) m (q .cursor)) l (r .cursor) (nullCursor emptyEnds) (rw (length-set (d .cursors) m (q .cursor), g .cursors) a),
+            getD-set-same (set (d .lists) m q) l r freshRow (rw (length-set (d .lists) m q, g .lists) a),
             getD-set-same (set (h .places) m y) l z (atNull []) (rw (length-set (h .places) m y) a),
           )
           s
@@ -85,18 +71,16 @@ module _ (n : ℕ) (d : Desk) (h : History) (g : Agrees n d h) where
           → Sound ws (rowAt (desk' ws r q) m .ends) (rowAt (desk' ws r q) m .cursor) (placeAt (history' z y st) m)
       at-other ne s =
           rw (
-            getD-set-other (set (d .ends) m (q .ends)) l m (r .ends) emptyEnds ne,
-            getD-set-other (set (d .cursors) m (q .cursor)) l m (r .cursor) (nullCursor emptyEnds) ne,
+            getD-set-other (set (d .lists) m q) l m r freshRow ne,
             getD-set-other (set (h .places) m y) l m z (atNull []) ne,
-            getD-set-same (d .ends) m (q .ends) emptyEnds (rw (g .lists) b),
-            getD-set-same (d .cursors) m (q .cursor) (nullCursor emptyEnds) (rw (g .cursors) b),
+            getD-set-same (d .lists) m q freshRow (rw (g .lists) b),
             getD-set-same (h .places) m y (atNull []) b,
           )
           s
 
       at-else : (i : ℕ) → i ≢ l → i ≢ m → Sound ws (rowAt d i .ends) (rowAt d i .cursor) (placeAt h i)
           → Sound ws (rowAt (desk' ws r q) i .ends) (rowAt (desk' ws r q) i .cursor) (placeAt (history' z y st) i)
-      at-else i p k s = rw (ends-else ws r q i p k, cursors-else ws r q i p k, places-else z y st i p k) s
+      at-else i p k s = rw (rows-else ws r q i p k, places-else z y st i p k) s
 
       -- what makes a new desk agree with a new history
       pub agrees-put : length ws ≡ n → Sound ws (r .ends) (r .cursor) z → (m ≢ l → Sound ws (q .ends) (q .cursor) y)
@@ -106,8 +90,7 @@ module _ (n : ℕ) (d : Desk) (h : History) (g : Agrees n d h) where
       agrees-put long s t u k =
           record {
             long = long;
-            lists = length-set (set (d .ends) m (q .ends)) l (r .ends) ∙ length-set (d .ends) m (q .ends) ∙ g .lists ∙ sym lists';
-            cursors = length-set (set (d .cursors) m (q .cursor)) l (r .cursor) ∙ length-set (d .cursors) m (q .cursor) ∙ g .cursors ∙ sym lists';
+            lists = length-set (set (d .lists) m q) l r ∙ length-set (d .lists) m q ∙ g .lists ∙ sym lists';
             sound = λ i c.
                 ⊎-elim (λ e. rw e (at-named s))
                 (λ ne. ⊎-elim (λ e. rw e (at-other (λ f. ne (e ∙ f)) (t (λ f. ne (e ∙ f))))) (λ k. at-else i ne k (u i (rw lists' at c) ne k)) (same-or-not i m))
@@ -129,16 +112,15 @@ module _ (n : ℕ) (d : Desk) (h : History) (g : Agrees n d h) where
         on-set x (h .places) l z (atNull []) a in
         omega arith
 
-    pub one-agrees : (ws : List ℕ) (r : Row) (z : Place) (st : List ℕ) → length ws ≡ length (d .words) → Sound ws (r .ends) (r .cursor) z
-        → ((h1 t1 : ℕ) (vs : List ℕ) → Listing bitXor (d .words) h1 t1 vs → Apart vs (nodes (placeAt h l)) → Listing bitXor ws h1 t1 vs)
-        → Counted n (held (history' z (placeAt h m) st)) (linkedIn ws)
+    pub one-agrees : (ws : List ℕ) (r : Row) (z : Place) (st after : List ℕ) → LeavesAlone (d .words) ws (nodes (placeAt h l)) after
+        → Sound ws (r .ends) (r .cursor) z → Counted n (held (history' z (placeAt h m) st)) (linkedIn ws)
         → Agrees n (desk' ws r (rowAt d m)) (history' z (placeAt h m) st)
-    one-agrees ws r z st long s others k =
-        agrees-put ws r (rowAt d m) z (placeAt h m) st (long ∙ g .long) s (λ ne. stays m b ne) (λ i c p q. stays i c p) k
+    one-agrees ws r z st after alone s k =
+        agrees-put ws r (rowAt d m) z (placeAt h m) st (alone .long ∙ g .long) s (λ ne. stays m b ne) (λ i c p q. stays i c p) k
       where
         stays : (i : ℕ) → i < lists → i ≢ l → Sound ws (rowAt d i .ends) (rowAt d i .cursor) (placeAt h i)
         stays i c ne =
-            let o = g .sound i c in record { listing = others _ _ _ (o .listing) (rows-apart i l c a ne); place = o .place }
+            let o = g .sound i c in record { listing = alone .others _ _ _ (o .listing) (rows-apart i l c a ne); place = o .place }
 
     -- ---- two lists change
 
@@ -155,12 +137,13 @@ module _ (n : ℕ) (d : Desk) (h : History) (g : Agrees n d h) where
         on-set x (h .places) m y (atNull []) b in
         omega arith
 
-    pub two-agree : l ≢ m → (ws : List ℕ) (r q : Row) (z y : Place) (st : List ℕ) → length ws ≡ length (d .words)
-        → Sound ws (r .ends) (r .cursor) z → Sound ws (q .ends) (q .cursor) y
-        → ((h1 t1 : ℕ) (vs : List ℕ) → Listing bitXor (d .words) h1 t1 vs → Apart vs (nodes (placeAt h l)) → Apart vs (nodes (placeAt h m)) → Listing bitXor ws h1 t1 vs)
-        → Counted n (held (history' z y st)) (linkedIn ws) → Agrees n (desk' ws r q) (history' z y st)
-    two-agree ne ws r q z y st long s t others k = agrees-put ws r q z y st (long ∙ g .long) s (λ c. t) stays k
+    pub two-agree : l ≢ m → (ws : List ℕ) (r q : Row) (z y : Place) (st after : List ℕ)
+        → LeavesAlone (d .words) ws (nodes (placeAt h l) ++ nodes (placeAt h m)) after
+        → Sound ws (r .ends) (r .cursor) z → Sound ws (q .ends) (q .cursor) y → Counted n (held (history' z y st)) (linkedIn ws) → Agrees n (desk' ws r q) (history' z y st)
+    two-agree ne ws r q z y st after alone s t k = agrees-put ws r q z y st (alone .long ∙ g .long) s (λ c. t) stays k
       where
         stays : (i : ℕ) → i < lists → i ≢ l → i ≢ m → Sound ws (rowAt d i .ends) (rowAt d i .cursor) (placeAt h i)
         stays i c p q =
-            let o = g .sound i c in record { listing = others _ _ _ (o .listing) (rows-apart i l c a p) (rows-apart i m c b q); place = o .place }
+            let o = g .sound i c in
+            let a' = apart-both (nodes (placeAt h i)) (nodes (placeAt h l)) (nodes (placeAt h m)) (rows-apart i l c a p) (rows-apart i m c b q) in
+            record { listing = alone .others _ _ _ (o .listing) a'; place = o .place }

@@ -1,32 +1,31 @@
 -- Clear, on a desk that agrees with its history. Assumes nothing.
 use mathlib.Core.Path.{_≡_, refl, sym, ap, _∙_}
-use mathlib.Core.Bool.{Bool, true, false, not, cond}
+use mathlib.Core.Bool.{Bool, true, false, cond}
 use mathlib.Core.List.{List, []}
 use Prim.Native.Nat.{ℕ, _+_, _<_, _≤_}
 use native.Mathlib.Omega.{arith}
-use lib.Dec.{eqb, ltb}
+use lib.Dec.{ltb}
 use lib.ListN.{length, getD}
 use borrow.Author.Tests.{ltb-true, ltb-false}
 use Rattle.words.specs.Names.{poolFits, isLinked}
 use Rattle.words.specs.Pool.{outcome}
-use Rattle.words.proofs.Laws.Nodes.{apart-sym}
-use Rattle.standing.specs.declared.answer.Answer.the-variants.{Done}
-use Rattle.standing.specs.Ends.{emptyEnds}
+use Rattle.answers.specs.declared.Answer.the-variants.{Done}
+use Rattle.ends.specs.Ends.{emptyEnds}
 use Rattle.cursor.specs.Cursor.{nullCursor}
 use Rattle.cursor.specs.Plain.{atNull, nodes}
-use Rattle.edit.specs.Plain.{linkedIn}
+use Rattle.cursor.proofs.Laws.Alone.{outside-alone}
+use Rattle.cursor.specs.Does.{linkedIn}
 use Rattle.walk.specs.Marks.{elem, paint, unmarked, marking}
 use Rattle.walk.proofs.Laws.Marks.{paint-length, paint-at, paint-off}
-use Rattle.walk.proofs.Laws.Clear.{clear-listing, clear-keeps}
-use Rattle.desk.specs.declared.desk.Desk.{Desk}
+use Rattle.walk.proofs.Laws.Clear.{clear-listing}
 use Rattle.desk.specs.Work.{row, worked, clearing}
-use Rattle.desk.specs.Step.{rowAt}
+use Rattle.desk.specs.Step.{Desk, rowAt}
 use Rattle.history.specs.History.{History, placeAt, times, held}
 use Rattle.history.specs.Follows.{Agrees}
 use Rattle.history.proofs.Laws.Counts.{times-off}
 use Rattle.history.proofs.Laws.Counted.{Counted}
 use Rattle.history.proofs.Laws.Agrees.{counted, desk', history', one-agrees}
-use Rattle.history.proofs.Laws.Comes.{after-one, one-count, list-held, off-here}
+use Rattle.history.proofs.Laws.Comes.{after-one, one-count, off-here}
 use Rattle.history.proofs.Laws.Commands.{empty-sound}
 use Rattle.history.proofs.Laws.Elements.{elem-times}
 
@@ -80,8 +79,8 @@ module _ (n : ℕ) (d : Desk) (h : History) (g : Agrees n d h) (f : poolFits n �
   pub clear-agrees : Agrees n (desk' n d h g l m a b cleared (row emptyEnds (nullCursor emptyEnds)) (rowAt d m))
       (history' n d h g l m a b (atNull []) (placeAt h m) (h .stranded))
   clear-agrees =
-      one-agrees n d h g l m a b cleared (row emptyEnds (nullCursor emptyEnds)) (atNull []) (h .stranded) (paint-length (d .words) 1 xs) (empty-sound cleared)
-      (λ h1 t1 vs k p. clear-keeps (d .words) xs h1 t1 vs (apart-sym vs xs p) k) clear-counted
+      one-agrees n d h g l m a b cleared (row emptyEnds (nullCursor emptyEnds)) (atNull []) (h .stranded) []
+      (outside-alone (d .words) cleared xs [] (record { long = paint-length (d .words) 1 xs; same = paint-off (d .words) 1 xs })) (empty-sound cleared) clear-counted
 
   pub clear-kept : (x : ℕ) → 0 < times x (h .stranded) → getD cleared x 0 ≡ getD (d .words) x 0
   clear-kept x p = paint-off (d .words) 1 xs x (times-off x xs (off-here n d h g l m a b x p))

@@ -1,24 +1,17 @@
 -- Each command, by its code, on a desk that agrees with its history. Assumes nothing.
-use mathlib.Core.Path.{_≡_, refl, sym, ap, _∙_}
-use mathlib.Core.Logic.{_≢_}
-use mathlib.Core.Bool.{Bool, true, false, _&&_, cond}
+use mathlib.Core.Path.{_≡_, refl, ap}
+use mathlib.Core.Bool.{true}
 use mathlib.Core.List.{List, [], _∷_, _++_, reverse}
-use Prim.Native.Nat.{ℕ, _+_, _<_, _≤_}
+use Prim.Native.Nat.{ℕ, _+_, _<_}
 use native.Mathlib.Omega.{arith}
 use lib.Bits.{bitXor}
-use lib.Dec.{eqb, ltb}
-use lib.ListN.{length, getD}
+use lib.ListN.{length}
 use Rattle.words.specs.declared.names.Node.{Node}
 use Rattle.words.specs.Names.{poolFits}
 use Rattle.words.specs.Pool.{Outcome, outcome}
 use Rattle.words.specs.Listing.{Listing}
-use Rattle.words.proofs.Laws.Listing.{xor-listing-reverse}
-use Rattle.standing.specs.declared.answer.Refusal.the-variants.{NotEmpty, Malformed}
-use Rattle.standing.specs.declared.answer.Answer.the-variants.{Done, Refused}
-use Rattle.standing.specs.declared.ends.Ends.{Ends}
-use Rattle.standing.specs.Answer.{isRefused}
-use Rattle.standing.specs.Ends.{emptyEnds, turned}
-use Rattle.standing.specs.Tests.{endsTest}
+use Rattle.answers.specs.declared.Answer.the-variants.{Done}
+use Rattle.ends.specs.Ends.{emptyEnds, turned}
 use Rattle.cursor.specs.Cursor.{nullCursor}
 use Rattle.cursor.specs.Plain.{Place, at, atNull, nodes, nextPlace, prevPlace, Sound}
 use Rattle.moves.specs.Moves.{moveNext, movePrev, movedNext, movedPrev}
@@ -26,7 +19,7 @@ use Rattle.moves.proofs.Laws.Moves.{move-next-does, move-prev-does}
 use Rattle.cursor.proofs.Laws.Sound.{sound-ends-test}
 use Rattle.insert.specs.Inserts.{insertAfter, insertBefore}
 use Rattle.remove.specs.Removes.{remove, replace}
-use Rattle.edit.specs.Plain.{linkedIn}
+use Rattle.cursor.specs.Does.{linkedIn}
 use Rattle.insert.specs.Plain.{placeAfter, placeBefore, plainInsertAfter, plainInsertBefore}
 use Rattle.remove.specs.Plain.{plainRemove, plainReplace}
 use Rattle.insert.proofs.Laws.Insert.{insert-after-does}
@@ -35,36 +28,23 @@ use Rattle.remove.proofs.Laws.Remove.{remove-does}
 use Rattle.remove.proofs.Laws.Replace.{replace-does}
 use Rattle.insert.proofs.Laws.Few.{insert-after-few, insert-before-few}
 use Rattle.remove.proofs.Laws.Few.{remove-few, replace-few}
-use Rattle.splice.specs.Splices.{spliceAfter, spliceBefore}
-use Rattle.split.specs.Splits.{splitAfter, splitBefore}
-use Rattle.splice.specs.Plain.{plainSpliceAfter, plainSpliceBefore}
-use Rattle.split.specs.Plain.{plainSplitAfter, plainSplitBefore}
-use Rattle.splice.proofs.Laws.Splice.{splice-after-does}
-use Rattle.split.proofs.Laws.Split.{split-after-does}
-use Rattle.splice.proofs.Laws.Mirror.{splice-before-does}
-use Rattle.split.proofs.Laws.Mirror.{split-before-does}
-use Rattle.splice.proofs.Laws.Few.{splice-after-few, splice-before-few}
-use Rattle.split.proofs.Laws.Few.{split-after-few, split-before-few}
-use Rattle.splice.proofs.Laws.Refused.{splice-after-unchanged, splice-before-unchanged}
-use Rattle.split.proofs.Laws.Refused.{split-after-unchanged, split-before-unchanged}
-use Rattle.list.specs.Lists.{pushFront, pushBack, popFront, popBack, take, fastClear, reversed}
+use Rattle.list.specs.Lists.{pushFront, pushBack, popFront, popBack, fastClear, reversed}
 use Rattle.list.specs.Plain.{plainPushFront, plainPushBack, plainPopFront, plainPopBack}
 use Rattle.list.proofs.Laws.Pushes.{sound-null, push-front-does, push-back-does}
 use Rattle.list.proofs.Laws.Pops.{pop-front-does, pop-back-does}
-use Rattle.list.proofs.Laws.Ends.{take-empty, take-full, fast-clear-does, reverse-does}
+use Rattle.list.proofs.Laws.Ends.{fast-clear-does, reverse-does}
 use Rattle.list.proofs.Laws.Few.{push-front-few, push-back-few, pop-front-few, pop-back-few}
 use Rattle.list.proofs.Laws.Refused.{push-front-unchanged, push-back-unchanged, pop-front-unchanged, pop-back-unchanged}
-use Rattle.desk.specs.declared.desk.Desk.{Desk}
-use Rattle.desk.specs.declared.desk.Worked.{Worked}
-use Rattle.desk.specs.Work.{row, worked, with, atCursor, onList, onBoth, taking, toNull, byCode}
-use Rattle.desk.specs.Step.{rowAt}
-use Rattle.history.specs.History.{History, Turn, turn, placeAt, times, held, isHeld, atPlace, onSequence, onTwo, plainTake, turnOf}
+use Rattle.desk.specs.declared.Worked.{Worked}
+use Rattle.desk.specs.Work.{row, with, atCursor, onList, toNull}
+use Rattle.desk.specs.Step.{Desk, rowAt}
+use Rattle.history.specs.History.{History, PlainWorked, plainWorked, placeAt, times, held, isHeld, atPlace, onSequence}
 use Rattle.history.specs.Follows.{Agrees}
 use Rattle.history.proofs.Laws.Counts.{times-append, times-reverse}
 use Rattle.history.proofs.Laws.Counted.{Counted}
-use Rattle.history.proofs.Laws.Agrees.{counted, rows-apart}
-use Rattle.history.proofs.Laws.Plain.{times-at, times-after, times-before, times-next, times-prev, inserting, insert-asks, insert-counted, remove-asks, remove-counted, replace-asks, replace-counted}
-use Rattle.history.proofs.Laws.Comes.{Comes, after-one, list-held, one-count, still, stays, at-cursor, on-list, on-both, still-two}
+use Rattle.history.proofs.Laws.Agrees.{counted}
+use Rattle.history.proofs.Laws.Plain.{times-after, times-before, times-next, times-prev, inserting, insert-asks, insert-counted, remove-asks, remove-counted, replace-asks, replace-counted}
+use Rattle.history.proofs.Laws.Comes.{Comes, after-one, list-held, one-count, still, at-cursor, on-list}
 
 -- an empty list
 pub empty-listing : (ws : List ℕ) → Listing bitXor ws 0 0 []
@@ -83,7 +63,7 @@ module _ (n : ℕ) (d : Desk) (h : History) (g : Agrees n d h) (f : poolFits n �
   abbrev y : Place
   y = placeAt h m
 
-  abbrev does : Outcome Worked → Turn → Type 0
+  abbrev does : Outcome Worked → PlainWorked → Type 0
   does = Comes n d h g l m a b
 
   fits : poolFits (length ws) ≡ true
@@ -140,7 +120,7 @@ module _ (n : ℕ) (d : Desk) (h : History) (g : Agrees n d h) (f : poolFits n �
 
   -- ---- moves
 
-  pub next : does (outcome ws (atCursor (moveNext ws (rowAt d l .ends) (rowAt d l .cursor)) (rowAt d m))) (turn Done (nextPlace z) y (h .stranded))
+  pub next : does (outcome ws (atCursor (moveNext ws (rowAt d l .ends) (rowAt d l .cursor)) (rowAt d m))) (plainWorked Done (nextPlace z) y (h .stranded))
   unfolding atCursor
   next =
       let k = move-next-does ws (rowAt d l .ends) (rowAt d l .cursor) z fits sound in
@@ -148,7 +128,7 @@ module _ (n : ℕ) (d : Desk) (h : History) (g : Agrees n d h) (f : poolFits n �
       (still n d h g l m a b Done (row (rowAt d l .ends) (movedNext ws (rowAt d l .ends) (rowAt d l .cursor))) (nextPlace z) (h .stranded) (k .1)
       (λ x. ap (λ (v : ℕ). v + times x (h .stranded)) (times-next x z)))
 
-  pub prev : does (outcome ws (atCursor (movePrev ws (rowAt d l .ends) (rowAt d l .cursor)) (rowAt d m))) (turn Done (prevPlace z) y (h .stranded))
+  pub prev : does (outcome ws (atCursor (movePrev ws (rowAt d l .ends) (rowAt d l .cursor)) (rowAt d m))) (plainWorked Done (prevPlace z) y (h .stranded))
   unfolding atCursor
   prev =
       let k = move-prev-does ws (rowAt d l .ends) (rowAt d l .cursor) z fits sound in
@@ -158,7 +138,7 @@ module _ (n : ℕ) (d : Desk) (h : History) (g : Agrees n d h) (f : poolFits n �
 
   -- ---- the list as a whole, its words staying
 
-  pub reverses : does (outcome ws (onList (reversed ws (rowAt d l .ends)) (rowAt d l) (rowAt d m))) (turn Done (atNull (reverse (nodes z))) y (h .stranded))
+  pub reverses : does (outcome ws (onList (reversed ws (rowAt d l .ends)) (rowAt d l) (rowAt d m))) (plainWorked Done (atNull (reverse (nodes z))) y (h .stranded))
   unfolding onList
   reverses =
       let k = reverse-does ws (rowAt d l .ends) (nodes z) fits listing in
@@ -167,7 +147,7 @@ module _ (n : ℕ) (d : Desk) (h : History) (g : Agrees n d h) (f : poolFits n �
       (sound-null ws (turned (rowAt d l .ends)) (reverse (nodes z)) (k .1))
       (λ x. ap (λ (v : ℕ). v + times x (h .stranded)) (times-reverse x (nodes z))))
 
-  pub fast-clears : does (outcome ws (onList (fastClear ws (rowAt d l .ends)) (rowAt d l) (rowAt d m))) (turn Done (atNull []) y (nodes z ++ h .stranded))
+  pub fast-clears : does (outcome ws (onList (fastClear ws (rowAt d l .ends)) (rowAt d l) (rowAt d m))) (plainWorked Done (atNull []) y (nodes z ++ h .stranded))
   unfolding onList times
   fast-clears =
       let k = fast-clear-does ws (rowAt d l .ends) (nodes z) fits listing in
@@ -175,7 +155,7 @@ module _ (n : ℕ) (d : Desk) (h : History) (g : Agrees n d h) (f : poolFits n �
       (still n d h g l m a b Done (row emptyEnds (nullCursor emptyEnds)) (atNull []) (nodes z ++ h .stranded) (empty-sound ws)
       (λ x. let e : times x (nodes z ++ h .stranded) ≡ times x (nodes z) + times x (h .stranded) = times-append x (nodes z) (h .stranded) in omega arith))
 
-  pub nulls : does (outcome ws (toNull ws (rowAt d l) (rowAt d m))) (turn Done (atNull (nodes z)) y (h .stranded))
+  pub nulls : does (outcome ws (toNull ws (rowAt d l) (rowAt d m))) (plainWorked Done (atNull (nodes z)) y (h .stranded))
   unfolding toNull
   nulls =
       rw (sound-ends-test ws (rowAt d l .ends) (nodes z) fits listing)

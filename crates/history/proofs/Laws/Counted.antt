@@ -1,13 +1,13 @@
 -- Which nodes are linked, by how often each is held: what a node more, or a node less, does to it. Assumes nothing.
-use mathlib.Core.Path.{_≡_, refl, sym, ap, _∙_}
+use mathlib.Core.Path.{_≡_, sym, ap, _∙_}
 use mathlib.Core.Logic.{_≢_, ⊎-elim}
-use mathlib.Core.Bool.{Bool, true, false, _&&_, _||_, not}
+use mathlib.Core.Bool.{Bool}
 use Prim.Native.Nat.{ℕ, _+_, _-_, _<_, _≤_}
 use native.Mathlib.Omega.{arith}
 use lib.Dec.{eqb, ltb}
-use borrow.Author.Tests.{eq-eqb, ne-eqb, lt-ltb}
+use borrow.Author.Tests.{eq-eqb, ne-eqb}
 use Rattle.words.proofs.Laws.Cases.{same-or-not}
-use Rattle.edit.specs.Plain.{linking, unlinking}
+use Rattle.cursor.specs.Does.{linking, unlinking}
 use Rattle.audit.specs.Audit.{bit}
 
 -- H says how often each node is held; f says which are linked.

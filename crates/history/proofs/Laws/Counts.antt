@@ -1,5 +1,5 @@
 -- How often a node stands in a sequence, and on all lists: laws of the count. Assumes nothing.
-use mathlib.Core.Path.{_≡_, refl, sym, ap, _∙_}
+use mathlib.Core.Path.{_≡_, refl, sym, ap}
 use mathlib.Core.Logic.{_≢_, ⊎-elim}
 use mathlib.Core.List.{List, [], _∷_, _++_, reverse, reverse-cons}
 use Prim.Native.Nat.{ℕ, zero, suc, _+_, _<_, _≤_}
@@ -7,9 +7,9 @@ use native.Mathlib.Omega.{arith}
 use lib.Dec.{eqb}
 use lib.ListN.{length, getD, set}
 use borrow.Author.Tests.{eq-eqb, ne-eqb}
-use Rattle.words.specs.Listing.{All, Off, Distinct, Apart}
+use Rattle.words.specs.Listing.{Off, Distinct, Apart}
 use Rattle.words.proofs.Laws.Cases.{same-or-not}
-use Rattle.cursor.specs.Plain.{Place, atNull, nodes}
+use Rattle.cursor.specs.Plain.{Place, nodes}
 use Rattle.audit.specs.Audit.{bit}
 use Rattle.history.specs.History.{times, onLists}
 

@@ -1,9 +1,9 @@
 -- To be an element is to stand there more than no times; and the listings of all lists together. Assumes nothing.
 use mathlib.Core.Path.{_≡_, refl, sym, ap, _∙_}
 use mathlib.Core.Logic.{⊎-elim}
-use mathlib.Core.Bool.{Bool, true, false, _&&_, _||_, not}
-use mathlib.Core.List.{List, [], _∷_, _++_, map}
-use Prim.Native.Nat.{ℕ, zero, suc, _+_, _<_, _≤_}
+use mathlib.Core.Bool.{Bool, true, false, _||_}
+use mathlib.Core.List.{List, [], _∷_, map}
+use Prim.Native.Nat.{ℕ, suc, _+_, _<_, _≤_}
 use native.Mathlib.Omega.{arith}
 use lib.Bits.{bitXor}
 use lib.Dec.{eqb, ltb}
@@ -13,12 +13,13 @@ use Rattle.words.specs.Listing.{All, Listing}
 use Rattle.words.specs.Afresh.{joined}
 use Rattle.words.proofs.Laws.Afresh.{Chains}
 use Rattle.words.proofs.Laws.Cases.{below-or-not}
-use Rattle.standing.specs.declared.ends.Ends.{Ends}
-use Rattle.standing.specs.Ends.{emptyEnds}
+use Rattle.ends.specs.declared.Ends.{Ends}
 use Rattle.cursor.specs.Plain.{Place, atNull, nodes}
 use Rattle.walk.specs.Marks.{elem}
 use Rattle.audit.specs.Audit.{bit}
 use Rattle.audit.specs.Listed.{Listed}
+use Rattle.desk.specs.declared.Row.{Row}
+use Rattle.desk.specs.Step.{freshRow, endsOfAll}
 use Rattle.history.specs.History.{times, onLists, size}
 use Rattle.history.proofs.Laws.Counts.{times-append}
 
@@ -47,13 +48,13 @@ length-joined [] = refl
 length-joined (z ∷ zs) = length-append (nodes z) (joined (map nodes zs)) ∙ ap (λ (k : ℕ). length (nodes z) + k) (length-joined zs)
 
 -- listings one by one are the listings of the directory
-pub all-listed : (ws : List ℕ) (es : List Ends) (zs : List Place) → length es ≡ length zs
-    → ((l : ℕ) → l < length zs → Listing bitXor ws (getD es l emptyEnds .head .0) (getD es l emptyEnds .tail .0) (nodes (getD zs l (atNull []))))
-    → Listed ws es (map nodes zs)
+pub all-listed : (ws : List ℕ) (rs : List Row) (zs : List Place) → length rs ≡ length zs
+    → ((l : ℕ) → l < length zs → Listing bitXor ws (getD rs l freshRow .ends .head .0) (getD rs l freshRow .ends .tail .0) (nodes (getD zs l (atNull []))))
+    → Listed ws (endsOfAll rs) (map nodes zs)
 all-listed ws [] [] e h = tt
 all-listed ws [] (z ∷ zs) e h = omega arith
-all-listed ws (x ∷ es) [] e h = omega arith
-all-listed ws (x ∷ es) (z ∷ zs) e h = (h 0 (omega arith), all-listed ws es zs (omega arith) (λ l r. h (suc l) (omega arith)))
+all-listed ws (x ∷ rs) [] e h = omega arith
+all-listed ws (x ∷ rs) (z ∷ zs) e h = (h 0 (omega arith), all-listed ws rs zs (omega arith) (λ l r. h (suc l) (omega arith)))
 
 pub listed-chains : (ws : List ℕ) (es : List Ends) (xss : List (List ℕ)) → Listed ws es xss → Chains bitXor ws xss
 listed-chains ws [] [] h = tt

@@ -1,25 +1,25 @@
 -- Commands on two lists, and the table of commands by code, on a desk that agrees with its history. Assumes nothing.
-use mathlib.Core.Path.{_≡_, refl, sym, ap, _∙_}
+use mathlib.Core.Path.{_≡_, refl, sym, ap}
 use mathlib.Core.Logic.{_≢_}
-use mathlib.Core.Bool.{Bool, true, false, _&&_, _||_, cond}
+use mathlib.Core.Bool.{Bool, true, false, cond}
 use mathlib.Core.List.{List, [], _∷_, _++_}
-use Prim.Native.Nat.{ℕ, _+_, _<_, _≤_}
+use Prim.Native.Nat.{ℕ, _+_, _<_}
 use native.Mathlib.Omega.{arith}
 use lib.Bits.{bitXor}
-use lib.Dec.{eqb, leb}
+use lib.Dec.{eqb}
 use lib.ListN.{length}
 use borrow.Author.Tests.{eqb-true}
 use Rattle.words.specs.declared.names.Node.{Node}
 use Rattle.words.specs.Names.{poolFits}
 use Rattle.words.specs.Pool.{Outcome, outcome}
 use Rattle.words.specs.Listing.{Listing}
-use Rattle.standing.specs.declared.answer.Refusal.the-variants.{NotEmpty, Malformed}
-use Rattle.standing.specs.declared.answer.Answer.the-variants.{Done, Refused}
-use Rattle.standing.specs.Answer.{isRefused}
-use Rattle.standing.specs.Ends.{emptyEnds}
-use Rattle.standing.proofs.Laws.Ladder.{not-both}
+use Rattle.answers.specs.declared.Refusal.the-variants.{NotEmpty, Malformed}
+use Rattle.answers.specs.declared.Answer.the-variants.{Done, Refused}
+use Rattle.answers.specs.Answer.{isRefused}
+use Rattle.ends.specs.Ends.{emptyEnds}
+use Rattle.answers.proofs.Laws.Ladder.{not-both}
 use Rattle.cursor.specs.Cursor.{nullCursor}
-use Rattle.cursor.specs.Plain.{Place, at, atNull, nodes, Sound}
+use Rattle.cursor.specs.Plain.{Place, at, atNull, nodes}
 use Rattle.splice.specs.Splices.{spliceAfter, spliceBefore}
 use Rattle.split.specs.Splits.{splitAfter, splitBefore}
 use Rattle.splice.specs.Plain.{plainSpliceAfter, plainSpliceBefore}
@@ -32,15 +32,13 @@ use Rattle.splice.proofs.Laws.Few.{splice-after-few, splice-before-few}
 use Rattle.split.proofs.Laws.Few.{split-after-few, split-before-few}
 use Rattle.splice.proofs.Laws.Refused.{splice-after-unchanged, splice-before-unchanged}
 use Rattle.split.proofs.Laws.Refused.{split-after-unchanged, split-before-unchanged}
-use Rattle.list.specs.Lists.{take}
 use Rattle.list.proofs.Laws.Pushes.{sound-null}
 use Rattle.list.proofs.Laws.Ends.{take-empty, take-full}
 use Rattle.lines.specs.Lines.{usesOther}
-use Rattle.desk.specs.declared.desk.Desk.{Desk}
-use Rattle.desk.specs.declared.desk.Worked.{Worked}
-use Rattle.desk.specs.Work.{row, worked, with, onBoth, taking, byCode}
-use Rattle.desk.specs.Step.{rowAt}
-use Rattle.history.specs.History.{History, Turn, placeAt, times, onTwo, isNone, plainTake, turnOf}
+use Rattle.desk.specs.declared.Worked.{Worked}
+use Rattle.desk.specs.Work.{row, with, onBoth, taking, byCode}
+use Rattle.desk.specs.Step.{Desk, rowAt}
+use Rattle.history.specs.History.{History, PlainWorked, placeAt, times, onTwo, plainTake, plainByCode}
 use Rattle.history.specs.Follows.{Agrees}
 use Rattle.history.proofs.Laws.Counts.{times-append}
 use Rattle.history.proofs.Laws.Agrees.{rows-apart}
@@ -121,7 +119,7 @@ module _ (n : ℕ) (d : Desk) (h : History) (g : Agrees n d h) (f : poolFits n �
   abbrev y : Place
   y = placeAt h m
 
-  abbrev does : Outcome Worked → Turn → Type 0
+  abbrev does : Outcome Worked → PlainWorked → Type 0
   does = Comes n d h g l m a b
 
   fits : poolFits (length ws) ≡ true
@@ -183,15 +181,15 @@ module _ (n : ℕ) (d : Desk) (h : History) (g : Agrees n d h) (f : poolFits n �
 
   -- ---- by code
 
-  pick : (c : Bool) {w w' : Outcome Worked} {t t' : Turn} → (c ≡ true → does w t) → (c ≡ false → does w' t') → does (cond c w w') (cond c t t')
+  pick : (c : Bool) {w w' : Outcome Worked} {t t' : PlainWorked} → (c ≡ true → does w t) → (c ≡ false → does w' t') → does (cond c w w') (cond c t t')
   pick true p q = p refl
   pick false p q = q refl
 
   uses : (code k : ℕ) → usesOther k ≡ true → eqb code k ≡ true → usesOther code ≡ true
   uses code k u e = rw (eqb-true code k e) u
 
-  pub by-code : (code : ℕ) (i : Node) → (usesOther code ≡ true → l ≢ m) → does (byCode code ws (rowAt d l) (rowAt d m) i) (turnOf code n h z y (i .0))
-  unfolding byCode turnOf usesOther
+  pub by-code : (code : ℕ) (i : Node) → (usesOther code ≡ true → l ≢ m) → does (byCode code ws (rowAt d l) (rowAt d m) i) (plainByCode code n h z y (i .0))
+  unfolding byCode plainByCode usesOther
   by-code code i ne =
       pick (eqb code 1) (λ e. insert-after n d h g f l m a b i) (λ e1.
       pick (eqb code 2) (λ e. insert-before n d h g f l m a b i) (λ e2.

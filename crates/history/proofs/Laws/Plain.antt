@@ -1,19 +1,17 @@
 -- The plain edits at a place: they ask only whether the new node is linked, and each adds or takes away its own nodes.
 -- Assumes nothing.
 use mathlib.Core.Path.{_≡_, refl, sym, ap, _∙_}
-use mathlib.Core.Logic.{_≢_}
 use mathlib.Core.Bool.{Bool, true, false, cond}
-use mathlib.Core.List.{List, [], _∷_, _++_, reverse}
+use mathlib.Core.List.{List, [], _∷_, _++_}
 use Prim.Native.Nat.{ℕ, _+_, _-_, _<_, _≤_}
 use native.Mathlib.Omega.{arith}
 use lib.Dec.{eqb, ltb}
-use borrow.Author.Tests.{ltb-true, ltb-false, eqb-true, eq-eqb}
-use Rattle.standing.specs.declared.answer.Answer.{Answer}
-use Rattle.standing.specs.declared.answer.Answer.the-variants.{Done}
-use Rattle.standing.specs.Answer.{isRefused}
+use borrow.Author.Tests.{ltb-true, ltb-false}
+use Rattle.answers.specs.declared.Answer.the-variants.{Done}
+use Rattle.answers.specs.Answer.{isRefused}
 use Rattle.cursor.specs.Plain.{Place, at, atNull, nodes, mirror, nextPlace, prevPlace}
 use Rattle.cursor.proofs.Laws.Mirror.{mirror-nodes}
-use Rattle.edit.specs.Plain.{Plain, plain, linking, unlinking, freeTest}
+use Rattle.cursor.specs.Does.{Plain, plain, linking, unlinking, freeTest}
 use Rattle.insert.specs.Plain.{placeAfter, placeBefore}
 use Rattle.remove.specs.Plain.{placeWithout, plainRemove, plainReplace}
 use Rattle.audit.specs.Audit.{bit}

@@ -1,27 +1,23 @@
 -- From a fresh desk, after any lines, the desk follows its history (demand 3). Assumes nothing.
 use mathlib.Core.Path.{_≡_, refl, sym, ap, _∙_}
 use mathlib.Core.Bool.{Bool, true, false, _&&_, cond}
-use mathlib.Core.List.{List, [], _∷_, _++_}
-use Prim.Native.Nat.{ℕ, zero, suc, _+_, _<_, _≤_}
+use mathlib.Core.List.{List, [], _∷_}
+use Prim.Native.Nat.{ℕ, zero, suc, _+_, _≤_}
 use native.Mathlib.Omega.{arith}
 use lib.Dec.{eqb, ltb}
-use lib.ListN.{length, getD, set, replicate, length-set, length-replicate, getD-replicate}
+use lib.ListN.{length, set, replicate, length-set, length-replicate, getD-replicate}
 use Rattle.words.specs.Names.{poolFits, isLinked}
-use Rattle.standing.specs.declared.ends.Ends.{Ends}
-use Rattle.standing.specs.Ends.{emptyEnds}
-use Rattle.cursor.specs.declared.cursor.Cursor.{Cursor}
-use Rattle.cursor.specs.Cursor.{nullCursor}
 use Rattle.cursor.specs.Plain.{Place, atNull}
-use Rattle.audit.specs.Audit.{directoryLimit}
+use Rattle.words.specs.Names.{directoryLimit}
 use Rattle.lines.specs.declared.line.Parsed.{Parsed}
 use Rattle.lines.specs.declared.line.Parsed.the-variants.{Right, Malformed as Wrong}
 use Rattle.lines.specs.Lines.{lineOf}
-use Rattle.desk.specs.declared.desk.Desk.{Desk}
-use Rattle.desk.specs.declared.desk.Reply.{Reply}
-use Rattle.desk.specs.Step.{freshDesk, rowAt, step}
-use Rattle.history.specs.History.{History, Told, placeAt, times, onLists, held, isHeld, start, after, tell}
+use Rattle.lines.specs.declared.answer.Reply.{Reply}
+use Rattle.desk.specs.declared.Row.{Row}
+use Rattle.desk.specs.Step.{Desk, freshRow, freshDesk, step}
+use Rattle.history.specs.History.{History, PlainStepped, times, onLists, held, isHeld, start, plainPutBack, plainStep}
 use Rattle.history.specs.Follows.{Agrees, Follows}
-use Rattle.history.specs.Runs.{Given, AllMarked, deskAfter, historyAfter, tellAll, answerAll}
+use Rattle.history.specs.Runs.{MarkedLine, AllMarked, deskAfter, historyAfter, plainAnswers, answerAll}
 use Rattle.history.proofs.Laws.Commands.{empty-sound}
 use Rattle.history.proofs.Laws.Steps.{step-follows}
 
@@ -37,12 +33,10 @@ unfolding freshDesk start held isHeld times isLinked
 fresh-agrees n k =
     record {
       long = length-replicate {A = ℕ} n 1;
-      lists = length-replicate {A = Ends} k emptyEnds ∙ sym many;
-      cursors = length-replicate {A = Cursor} k (nullCursor emptyEnds) ∙ sym many;
+      lists = length-replicate {A = Row} k freshRow ∙ sym many;
       sound = λ l r.
           rw (
-            getD-replicate k l emptyEnds emptyEnds (rw many at r),
-            getD-replicate k l (nullCursor emptyEnds) (nullCursor emptyEnds) (rw many at r),
+            getD-replicate k l freshRow freshRow (rw many at r),
             getD-replicate k l (atNull []) (atNull []) (rw many at r),
           )
           (empty-sound (replicate n 1));
@@ -62,14 +56,14 @@ fresh-agrees n k =
 
 -- ---- as many lists as before
 
-either : (c : Bool) (t t' : Told) (v : ℕ) → length (t .history .places) ≡ v → length (t' .history .places) ≡ v → length (cond c t t' .history .places) ≡ v
+either : (c : Bool) (t t' : PlainStepped) (v : ℕ) → length (t .history .places) ≡ v → length (t' .history .places) ≡ v → length (cond c t t' .history .places) ≡ v
 either true t t' v p q = p
 either false t t' v p q = q
 
-pub tell-lists : (n : ℕ) (h : History) (p : Parsed) → length (tell n h p .history .places) ≡ length (h .places)
-unfolding after
-tell-lists n h Wrong = refl
-tell-lists n h (Right o) =
+pub step-lists : (n : ℕ) (h : History) (p : Parsed) → length (plainStep n h p .history .places) ≡ length (h .places)
+unfolding plainPutBack
+step-lists n h Wrong = refl
+step-lists n h (Right o) =
     either (eqb (o .code) 20) _ _ (length (h .places)) refl
     (either (ltb (o .list) (length (h .places)) && ltb (o .other) (length (h .places))) _ _ (length (h .places))
     (length-set (set (h .places) (o .other) _) (o .list) _ ∙ length-set (h .places) (o .other) _) refl)
@@ -77,20 +71,20 @@ tell-lists n h (Right o) =
 -- ---- after any lines
 
 module _ (n : ℕ) (f : poolFits n ≡ true) where
-  pub after-agrees : (gs : List Given) (d : Desk) (h : History) → length (h .places) ≤ directoryLimit → AllMarked n gs → Agrees n d h
+  pub after-agrees : (gs : List MarkedLine) (d : Desk) (h : History) → length (h .places) ≤ directoryLimit → AllMarked n gs → Agrees n d h
       → Agrees n (deskAfter d gs) (historyAfter n h gs) × (length (historyAfter n h gs .places) ≡ length (h .places))
   unfolding deskAfter historyAfter
   after-agrees [] d h few m g = (g, refl)
   after-agrees (v ∷ gs) d h few m g =
       let s = step-follows n d (v .marks) h g f few (m .0) (lineOf (v .line)) in
-      let e = tell-lists n h (lineOf (v .line)) in
-      let k = after-agrees gs _ (tell n h (lineOf (v .line)) .history) (rw e few) (m .1) (s .agrees) in
+      let e = step-lists n h (lineOf (v .line)) in
+      let k = after-agrees gs _ (plainStep n h (lineOf (v .line)) .history) (rw e few) (m .1) (s .agrees) in
       (k .0, k .1 ∙ e)
 
   -- demand 3: from a fresh desk, after any lines, each line is followed
-  pub each-line : (k : ℕ) → k ≤ directoryLimit → (gs : List Given) → AllMarked n gs → (v : Given) → length (v .marks) ≡ n
-      → Follows n (deskAfter (freshDesk n k) gs) (lineOf (v .line)) (step (deskAfter (freshDesk n k) gs) (v .marks) (lineOf (v .line)) .answer)
-      (tell n (historyAfter n (start k) gs) (lineOf (v .line)))
+  pub each-line : (k : ℕ) → k ≤ directoryLimit → (gs : List MarkedLine) → AllMarked n gs → (v : MarkedLine) → length (v .marks) ≡ n
+      → Follows n (deskAfter (freshDesk n k) gs) (lineOf (v .line)) (step (deskAfter (freshDesk n k) gs) (v .marks) (lineOf (v .line)) .result)
+      (plainStep n (historyAfter n (start k) gs) (lineOf (v .line)))
   unfolding start
   each-line k few gs m v mv =
       let s = after-agrees gs (freshDesk n k) (start k) (rw (length-replicate {A = Place} k (atNull [])) few) m (fresh-agrees n k) in
@@ -98,16 +92,16 @@ module _ (n : ℕ) (f : poolFits n ≡ true) where
 
   -- the answers are the history's
   answers-from : (ms : List ℕ) → length ms ≡ n → (ps : List Parsed) (d : Desk) (h : History) → length (h .places) ≤ directoryLimit → Agrees n d h
-      → answerAll d ms ps ≡ tellAll n h ps
-  unfolding answerAll tellAll
+      → answerAll d ms ps ≡ plainAnswers n h ps
+  unfolding answerAll plainAnswers
   answers-from ms long [] d h few g = refl
   answers-from ms long (p ∷ ps) d h few g =
       let s = step-follows n d ms h g f few long p in
-      let e = tell-lists n h p in
-      ap (λ (r : Reply). r ∷ answerAll (step d ms p .answer) ms ps) (s .reply)
-      ∙ ap (λ (rs : List Reply). tell n h p .reply ∷ rs) (answers-from ms long ps _ (tell n h p .history) (rw e few) (s .agrees))
+      let e = step-lists n h p in
+      ap (λ (r : Reply). r ∷ answerAll (step d ms p .result .desk) ms ps) (s .reply)
+      ∙ ap (λ (rs : List Reply). plainStep n h p .reply ∷ rs) (answers-from ms long ps _ (plainStep n h p .history) (rw e few) (s .agrees))
 
-  pub answers-are : (k : ℕ) → k ≤ directoryLimit → (ms : List ℕ) → length ms ≡ n → (ps : List Parsed) → answerAll (freshDesk n k) ms ps ≡ tellAll n (start k) ps
+  pub answers-are : (k : ℕ) → k ≤ directoryLimit → (ms : List ℕ) → length ms ≡ n → (ps : List Parsed) → answerAll (freshDesk n k) ms ps ≡ plainAnswers n (start k) ps
   unfolding start
   answers-are k few ms long ps =
       answers-from ms long ps (freshDesk n k) (start k) (rw (length-replicate {A = Place} k (atNull [])) few) (fresh-agrees n k)

@@ -5,18 +5,15 @@ use Prim.Native.Nat.{ℕ}
 use Rattle.words.specs.declared.names.Node.{Node}
 use Rattle.words.specs.Names.{isNull, naming}
 use Rattle.words.specs.Pool.{outcome}
-use Rattle.words.specs.LinkOps.{linkBetween}
+use Rattle.links.specs.XorOps.{linkBetween}
 use Rattle.words.specs.Changes.{Changes, AtMostFour}
-use Rattle.words.proofs.Laws.Pool.{few-unless}
-use Rattle.words.proofs.Laws.Between.{link-changes}
-use Rattle.standing.specs.declared.ends.Ends.{Ends}
-use Rattle.standing.specs.Answer.{isRefused}
-use Rattle.cursor.specs.declared.cursor.Cursor.{Cursor}
-use Rattle.cursor.specs.declared.cursor.Edited.{Edited}
-use Rattle.cursor.specs.Cursor.{edited, nodeTest}
-use Rattle.edit.specs.Edits.{acquiring}
+use Rattle.links.proofs.Laws.Between.{link-changes}
+use Rattle.ends.specs.declared.Ends.{Ends}
+use Rattle.cursor.specs.declared.Cursor.{Cursor}
+use Rattle.cursor.specs.declared.Edited.{Edited}
+use Rattle.cursor.specs.Cursor.{nodeTest, acquireNode}
 use Rattle.insert.specs.Inserts.{insertedAfter, insertedBefore, insertAfter, insertBefore}
-use Rattle.edit.proofs.Laws.Few.{acquire-steps}
+use Rattle.cursor.proofs.Laws.Few.{acquire-steps}
 
 -- three names are four with one of them again
 again : (p q w : ℕ) (a b : List ℕ) → Changes (p ∷ q ∷ w ∷ []) a b → Changes (p ∷ q ∷ w ∷ w ∷ []) a b
@@ -33,15 +30,15 @@ unfolding insertAfter insertedAfter
 insert-after-few ws e c i =
     let m = naming i .0 in
     let b = isNull (c .current) in
-    few-unless (isRefused (nodeTest ws e c i)) ws (edited (nodeTest ws e c i) e c) (acquiring ws e c (naming i) (λ l. insertedAfter l e c (naming i)))
-    (acquire-steps ws e c (naming i) (λ l. insertedAfter l e c (naming i)) (cond b 0 (c .current .0)) (cond b (e .head .0) (c .next .0)) m
-    (λ l. again _ _ m l _ (at-either b l m 0 (e .head .0) (c .current .0) (c .next .0) _ _)))
+    let l = acquireNode ws (nodeTest ws e c i) (naming i) .words in
+    acquire-steps ws e c (nodeTest ws e c i) (naming i) (insertedAfter l e c (naming i)) (cond b 0 (c .current .0)) (cond b (e .head .0) (c .next .0)) m
+    (again _ _ m l _ (at-either b l m 0 (e .head .0) (c .current .0) (c .next .0) _ _))
 
 pub insert-before-few : (ws : List ℕ) (e : Ends) (c : Cursor) (i : Node) → AtMostFour ws (insertBefore ws e c i .words)
 unfolding insertBefore insertedBefore
 insert-before-few ws e c i =
     let m = naming i .0 in
     let b = isNull (c .current) in
-    few-unless (isRefused (nodeTest ws e c i)) ws (edited (nodeTest ws e c i) e c) (acquiring ws e c (naming i) (λ l. insertedBefore l e c (naming i)))
-    (acquire-steps ws e c (naming i) (λ l. insertedBefore l e c (naming i)) (cond b (e .tail .0) (c .prev .0)) (cond b 0 (c .current .0)) m
-    (λ l. again _ _ m l _ (at-either b l m (e .tail .0) 0 (c .prev .0) (c .current .0) _ _)))
+    let l = acquireNode ws (nodeTest ws e c i) (naming i) .words in
+    acquire-steps ws e c (nodeTest ws e c i) (naming i) (insertedBefore l e c (naming i)) (cond b (e .tail .0) (c .prev .0)) (cond b 0 (c .current .0)) m
+    (again _ _ m l _ (at-either b l m (e .tail .0) 0 (c .prev .0) (c .current .0) _ _))

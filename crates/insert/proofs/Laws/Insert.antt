@@ -1,6 +1,5 @@
 -- Insert after does its plain edit. Assumes nothing.
 use mathlib.Core.Path.{_≡_, refl, sym, _∙_}
-use mathlib.Core.Logic.{_≢_}
 use mathlib.Core.Bool.{Bool, true, false, cond}
 use mathlib.Core.List.{List, [], _∷_, _++_, append-assoc}
 use Prim.Native.Nat.{ℕ, _<_}
@@ -9,29 +8,30 @@ use lib.Dec.{ltb}
 use lib.ListN.{length}
 use borrow.Author.Tests.{ltb-true}
 use Rattle.words.specs.declared.names.Node.{Node}
-use Rattle.words.specs.Names.{name, isNull, poolFits}
+use Rattle.words.specs.Names.{name, isNull, poolFits, naming}
 use Rattle.words.specs.Pool.{putAt, Outcome, outcome}
-use Rattle.words.specs.LinkOps.{linkBetween}
+use Rattle.links.specs.XorOps.{linkBetween}
 use Rattle.words.specs.Listing.{All, Off, front, back}
-use Rattle.words.proofs.Laws.Nodes.{all-map, all-both, all-append, all-left, all-right}
+use Rattle.words.proofs.Laws.Nodes.{all-append, all-left, all-right}
 use Rattle.words.proofs.Laws.Pool.{changes-put, put-length}
 use Rattle.words.proofs.Laws.Chain.{front-append, back-append}
 use Rattle.words.proofs.Laws.Listing.{listing-as}
-use Rattle.words.proofs.Laws.Outside.{Outside, covered-null, covered-here, covered-more, covered-right, covered-front, changes-outside, listing-outside, listing-linked}
-use Rattle.words.proofs.Laws.Between.{linked, link-changes}
-use Rattle.standing.specs.declared.answer.Refusal.the-variants.{AlreadyLinked, NoSuchNode}
-use Rattle.standing.specs.declared.answer.Answer.the-variants.{Done, Refused}
-use Rattle.standing.specs.declared.ends.Ends.{Ends}
-use Rattle.standing.specs.Ends.{endsOf}
-use Rattle.standing.proofs.Laws.Holds.{name-null}
-use Rattle.cursor.specs.declared.cursor.Cursor.{Cursor}
-use Rattle.cursor.specs.declared.cursor.Edited.{Edited}
+use Rattle.words.proofs.Laws.Outside.{Outside, covered-null, covered-here, covered-more, covered-right, covered-front, changes-outside}
+use Rattle.links.proofs.Laws.XorListing.{xor-listing-linked}
+use Rattle.links.proofs.Laws.Between.{linked, link-changes}
+use Rattle.answers.specs.declared.Refusal.the-variants.{AlreadyLinked, NoSuchNode}
+use Rattle.answers.specs.declared.Answer.the-variants.{Done, Refused}
+use Rattle.ends.specs.declared.Ends.{Ends}
+use Rattle.ends.specs.Ends.{endsOf}
+use Rattle.ends.proofs.Laws.Holds.{name-null}
+use Rattle.cursor.specs.declared.Cursor.{Cursor}
+use Rattle.cursor.specs.declared.Edited.{Edited}
 use Rattle.cursor.specs.Cursor.{cursorOf, nullCursor, edited}
 use Rattle.cursor.specs.Plain.{Place, at, atNull, nodes, Sound}
 use Rattle.insert.specs.Inserts.{insertedAfter, insertAfter}
-use Rattle.edit.specs.Plain.{plain, linking, Does, linkedIn}
+use Rattle.cursor.specs.Does.{plain, linking, Does, linkedIn}
 use Rattle.insert.specs.Plain.{placeAfter, plainInsertAfter}
-use Rattle.edit.proofs.Laws.Common.{refused-does, named, naming-in, sound-node-test, acquire-linked, acquire-free, free-off, sound-acquired, marks-linking, tail-after, tail-front}
+use Rattle.cursor.proofs.Laws.Common.{refused-does, named, naming-in, sound-node-test, acquire-refused, acquire-linked, acquire-free, free-off, sound-acquired, acquired-alone, marks-linking, tail-after, tail-front}
 
 -- ---- the steps, on a sound list, for a node that is off it
 
@@ -52,8 +52,8 @@ after-null ws e c i xs s = let nn : isNull (c .current) ≡ true = rw (s .place 
 
 -- what is left
 pub record Inserted (ws : List ℕ) (z z' : Place) (i : ℕ) (o : Outcome Edited) : Type 0 where
-  pub answer : o .answer .answer ≡ Done
-  pub sound : Sound (o .words) (o .answer .ends) (o .answer .cursor) z'
+  pub answer : o .result .answer ≡ Done
+  pub sound : Sound (o .words) (o .result .ends) (o .result .cursor) z'
   pub outside : Outside (i ∷ nodes z) ws (o .words)
 
 inserted : (ws : List ℕ) (e : Ends) (c : Cursor) (i : ℕ) (z : Place) → Sound ws e c z → Off i (nodes z) → i < length ws
@@ -125,7 +125,7 @@ all-after P i (atNull xs) h = h
 module _ (ws : List ℕ) (e : Ends) (c : Cursor) (z : Place) (i : Node) (f : poolFits (length ws) ≡ true) (s : Sound ws e c z) where
   no-node : ltb (i .0) (length ws) ≡ false → Does ws z (insertAfter ws e c i) (plainInsertAfter (length ws) (linkedIn ws) (i .0) z)
   unfolding insertAfter plainInsertAfter
-  no-node h = refused-does ws e c z s _ _ (Refused NoSuchNode) (rw (sound-node-test ws e c z i f s, h)) (rw h)
+  no-node h = refused-does ws e c z s _ _ (Refused NoSuchNode) (rw (sound-node-test ws e c z i f s, h, acquire-refused ws NoSuchNode (naming i))) (rw h)
 
   taken : ltb (i .0) (length ws) ≡ true → linkedIn ws (i .0) ≡ true
       → Does ws z (insertAfter ws e c i) (plainInsertAfter (length ws) (linkedIn ws) (i .0) z)
@@ -158,20 +158,15 @@ module _ (ws : List ℕ) (e : Ends) (c : Cursor) (z : Place) (i : Node) (f : poo
         long = k .outside .long ∙ long1;
         same = λ j o. k .outside .same j o ∙ changes-put ws (name m) 0 .same j (covered-here m (nodes z) j o, tt);
       } in
-      let old = listing-linked ws (e .head .0) (e .tail .0) (nodes z) (s .listing) in
+      let old = xor-listing-linked ws (e .head .0) (e .tail .0) (nodes z) (s .listing) in
       let new = all-after (λ x. linkedIn (insertedAfter ws1 e c (named m) .words) x ≡ true) m z
-      (listing-linked _ _ _ (nodes (placeAfter m z)) (k .sound .listing)) in
+      (xor-listing-linked _ _ _ (nodes (placeAfter m z)) (k .sound .listing)) in
       rw (call h l, plain-call h l)
       (record {
         answer = k .answer;
         sound = k .sound;
         marks = marks-linking ws (insertedAfter ws1 e c (named m) .words) (nodes z) m out old new;
-        others = λ h' t' ys l' apart.
-            listing-outside bitXor (m ∷ nodes z) ws (insertedAfter ws1 e c (named m) .words) out h' t' ys
-            (all-map (λ y. (y ≢ m) × Off y (nodes z)) (λ y. Off y (m ∷ nodes z)) (λ y p. (λ q. p .0 (sym q), p .1)) ys
-            (all-both (λ y. y ≢ m) (λ y. Off y (nodes z)) ys (free-off ws h' t' ys m l' l) apart)) l';
-        kept = λ j a b. out .same j (all-after (λ y. y ≢ j) m z b);
-        long = out .long;
+        alone = acquired-alone ws _ (nodes z) (nodes (placeAfter m z)) (nodes z) m l out (λ P a. a) (λ P b. all-after P m z b .0);
       })
 
   pub insert-after-does : Does ws z (insertAfter ws e c i) (plainInsertAfter (length ws) (linkedIn ws) (i .0) z)

@@ -7,28 +7,27 @@ use Rattle.words.specs.declared.names.Node.{Node}
 use Rattle.words.specs.declared.names.Name.{Name}
 use Rattle.words.specs.Names.{isNull, naming}
 use Rattle.words.specs.Pool.{Outcome, outcome}
-use Rattle.standing.specs.declared.answer.Answer.the-variants.{Done}
-use Rattle.standing.specs.declared.ends.Ends.{Ends}
-use Rattle.standing.specs.Answer.{isRefused}
-use Rattle.cursor.specs.declared.cursor.Cursor.{Cursor}
-use Rattle.cursor.specs.declared.cursor.Edited.{Edited}
-use Rattle.cursor.specs.Cursor.{edited, nodeTest}
-use Rattle.edit.specs.Edits.{acquiring}
+use Rattle.answers.specs.declared.Answer.the-variants.{Done}
+use Rattle.ends.specs.declared.Ends.{Ends}
+use Rattle.answers.specs.Answer.{isRefused}
+use Rattle.cursor.specs.declared.Cursor.{Cursor}
+use Rattle.cursor.specs.declared.Edited.{Edited}
+use Rattle.cursor.specs.Cursor.{edited, nodeTest, acquireNode}
 use Rattle.insert.specs.Inserts.{insertedAfter, insertedBefore, insertAfter, insertBefore}
-use Rattle.edit.proofs.Laws.Refused.{Unchanged, unless, acquired}
+use Rattle.cursor.proofs.Laws.Refused.{Unchanged, acquired}
 
 -- ---- the steps are never refused
 
-either-done : (b : Bool) (x y : Outcome Edited) → isRefused (x .answer .answer) ≡ false → isRefused (y .answer .answer) ≡ false
-    → isRefused (cond b x y .answer .answer) ≡ false
+either-done : (b : Bool) (x y : Outcome Edited) → isRefused (x .result .answer) ≡ false → isRefused (y .result .answer) ≡ false
+    → isRefused (cond b x y .result .answer) ≡ false
 either-done true x y h k = h
 either-done false x y h k = k
 
-after-done : (ws : List ℕ) (e : Ends) (c : Cursor) (new : Name) → isRefused (insertedAfter ws e c new .answer .answer) ≡ false
+after-done : (ws : List ℕ) (e : Ends) (c : Cursor) (new : Name) → isRefused (insertedAfter ws e c new .result .answer) ≡ false
 unfolding insertedAfter
 after-done ws e c new = either-done (isNull (c .current)) (outcome _ (edited Done _ _)) (outcome _ (edited Done _ _)) refl refl
 
-before-done : (ws : List ℕ) (e : Ends) (c : Cursor) (new : Name) → isRefused (insertedBefore ws e c new .answer .answer) ≡ false
+before-done : (ws : List ℕ) (e : Ends) (c : Cursor) (new : Name) → isRefused (insertedBefore ws e c new .result .answer) ≡ false
 unfolding insertedBefore
 before-done ws e c new = either-done (isNull (c .current)) (outcome _ (edited Done _ _)) (outcome _ (edited Done _ _)) refl refl
 
@@ -37,11 +36,13 @@ before-done ws e c new = either-done (isNull (c .current)) (outcome _ (edited Do
 pub insert-after-unchanged : (ws : List ℕ) (e : Ends) (c : Cursor) (i : Node) → Unchanged ws e c (insertAfter ws e c i)
 unfolding insertAfter
 insert-after-unchanged ws e c i =
-    unless (nodeTest ws e c i) ws e c (acquiring ws e c (naming i) (λ l. insertedAfter l e c (naming i)))
-    (acquired ws e c (naming i) (λ l. insertedAfter l e c (naming i)) (λ l. after-done l e c (naming i)))
+    let t = nodeTest ws e c i in
+    let l = acquireNode ws t (naming i) .words in
+    acquired ws e c t (naming i) (insertedAfter l e c (naming i)) (after-done l e c (naming i))
 
 pub insert-before-unchanged : (ws : List ℕ) (e : Ends) (c : Cursor) (i : Node) → Unchanged ws e c (insertBefore ws e c i)
 unfolding insertBefore
 insert-before-unchanged ws e c i =
-    unless (nodeTest ws e c i) ws e c (acquiring ws e c (naming i) (λ l. insertedBefore l e c (naming i)))
-    (acquired ws e c (naming i) (λ l. insertedBefore l e c (naming i)) (λ l. before-done l e c (naming i)))
+    let t = nodeTest ws e c i in
+    let l = acquireNode ws t (naming i) .words in
+    acquired ws e c t (naming i) (insertedBefore l e c (naming i)) (before-done l e c (naming i))

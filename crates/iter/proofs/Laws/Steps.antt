@@ -1,29 +1,28 @@
 -- Over a listing the iterator gives the sequence from either end, in any mix of steps, until they meet. Assumes nothing.
 use mathlib.Core.Path.{_≡_, refl, sym, ap, _∙_}
 use mathlib.Core.Logic.{_≢_}
-use mathlib.Core.Bool.{Bool, true, false, cond}
-use mathlib.Core.List.{List, [], _∷_, _++_, reverse, reverse-cons, reverse-append, reverse-reverse, append-assoc, append-nil}
-use Prim.Native.Nat.{ℕ, _+_, _*_, _<_}
+use mathlib.Core.Bool.{Bool, true, false}
+use mathlib.Core.List.{List, [], _∷_, _++_, reverse, reverse-append, reverse-reverse, append-assoc, append-nil}
+use Prim.Native.Nat.{ℕ, _+_, _<_}
 use lib.Bits.{bitXor}
 use lib.Dec.{eqb}
-use lib.ListN.{length, getD}
+use lib.ListN.{length}
 use borrow.Author.Tests.{eq-eqb}
 use Rattle.words.specs.declared.names.Name.{Name}
-use Rattle.words.specs.declared.names.Found.the-variants.{At}
 use Rattle.words.specs.Names.{name, isNull, isName, poolFits, decoding}
-use Rattle.words.specs.LinkOps.{nextOf}
-use Rattle.words.specs.Listing.{All, Off, Distinct, front, back, Listing}
-use Rattle.words.proofs.Laws.Xor.{xor-comm, xor-twice-l}
-use Rattle.words.proofs.Laws.Nodes.{all-left, all-right, distinct-left, distinct-right}
+use Rattle.links.specs.XorOps.{nextOf}
+use Rattle.words.specs.Listing.{front, back, Listing}
+use Rattle.links.proofs.Laws.Xor.{xor-comm, xor-twice-l}
+use Rattle.words.proofs.Laws.Nodes.{all-left, all-right, distinct-right}
 use Rattle.words.proofs.Laws.Names.{name-is, node-name}
 use Rattle.words.proofs.Laws.Pool.{word-name}
 use Rattle.words.proofs.Laws.Chain.{chain-split, back-append, front-reverse, back-reverse, lastOf, back-last, all-last}
-use Rattle.words.proofs.Laws.Listing.{xor-listing-reverse}
-use Rattle.standing.specs.declared.answer.Answer.{Answer}
-use Rattle.standing.specs.declared.answer.Answer.the-variants.{Done, Handed}
-use Rattle.standing.specs.declared.ends.Ends.{Ends}
-use Rattle.standing.specs.Answer.{handing}
-use Rattle.standing.proofs.Laws.Holds.{name-null, name-other}
+use Rattle.links.proofs.Laws.XorListing.{xor-listing-reverse}
+use Rattle.answers.specs.declared.Answer.{Answer}
+use Rattle.answers.specs.declared.Answer.the-variants.{Done, Handed}
+use Rattle.ends.specs.declared.Ends.{Ends}
+use Rattle.answers.specs.Answer.{handing}
+use Rattle.ends.proofs.Laws.Holds.{name-null, name-other}
 use Rattle.iter.specs.declared.Iter.{Iter}
 use Rattle.iter.specs.Iter.{iterOf, over, turnedIter, stepped, next, nextBack}
 use Rattle.iter.specs.Plain.{first, rest, plainRun, iterRun, steps, handedAll}

@@ -1,20 +1,17 @@
 -- No push and no pop changes more than four words, for any words, ends and node. Assumes nothing.
-use mathlib.Core.Bool.{Bool, true, false, cond}
-use mathlib.Core.List.{List, []}
+use mathlib.Core.List.{List}
 use Prim.Native.Nat.{ℕ}
 use Rattle.words.specs.declared.names.Node.{Node}
-use Rattle.words.specs.Pool.{Outcome, outcome}
 use Rattle.words.specs.Changes.{AtMostFour}
 use Rattle.words.proofs.Laws.Pool.{few-unless}
-use Rattle.standing.specs.declared.ends.Ends.{Ends}
-use Rattle.standing.specs.Answer.{isRefused}
+use Rattle.ends.specs.declared.Ends.{Ends}
+use Rattle.answers.specs.Answer.{isRefused}
 use Rattle.cursor.specs.Cursor.{nullCursor}
 use Rattle.moves.specs.Moves.{movedNext, movedPrev}
 use Rattle.remove.specs.Removes.{removed}
 use Rattle.insert.proofs.Laws.Few.{insert-after-few, insert-before-few}
 use Rattle.remove.proofs.Laws.Few.{removed-few}
-use Rattle.list.specs.declared.list.Listed.{Listed}
-use Rattle.list.specs.Lists.{listed, withoutCursor, pushFront, pushBack, popTest, popFront, popBack}
+use Rattle.list.specs.Lists.{listEdited, withoutCursor, pushFront, pushBack, popTest, popFront, popBack}
 
 pub push-front-few : (ws : List ℕ) (e : Ends) (i : Node) → AtMostFour ws (pushFront ws e i .words)
 unfolding pushFront
@@ -27,11 +24,11 @@ push-back-few ws e i = insert-before-few ws e (nullCursor e) i
 pub pop-front-few : (ws : List ℕ) (e : Ends) → AtMostFour ws (popFront ws e .words)
 unfolding popFront
 pop-front-few ws e =
-    few-unless (isRefused (popTest ws e)) ws (listed (popTest ws e) e) (withoutCursor (removed ws e (movedNext ws e (nullCursor e))))
+    few-unless (isRefused (popTest ws e)) ws (listEdited (popTest ws e) e) (withoutCursor (removed ws e (movedNext ws e (nullCursor e))))
     (removed-few ws e (movedNext ws e (nullCursor e)))
 
 pub pop-back-few : (ws : List ℕ) (e : Ends) → AtMostFour ws (popBack ws e .words)
 unfolding popBack
 pop-back-few ws e =
-    few-unless (isRefused (popTest ws e)) ws (listed (popTest ws e) e) (withoutCursor (removed ws e (movedPrev ws e (nullCursor e))))
+    few-unless (isRefused (popTest ws e)) ws (listEdited (popTest ws e) e) (withoutCursor (removed ws e (movedPrev ws e (nullCursor e))))
     (removed-few ws e (movedPrev ws e (nullCursor e)))

@@ -1,30 +1,30 @@
 -- Pops do their plain edit. Assumes nothing.
 use mathlib.Core.Path.{_≡_, refl, sym, ap, _∙_}
-use mathlib.Core.Bool.{Bool, true, false, not, cond}
+use mathlib.Core.Bool.{true, false}
 use mathlib.Core.List.{List, [], _∷_, _++_, reverse, reverse-reverse, append-assoc}
 use Prim.Native.Nat.{ℕ}
 use lib.Bits.{bitXor}
 use lib.ListN.{length}
 use Rattle.words.specs.Names.{poolFits}
-use Rattle.words.specs.Pool.{Outcome, outcome}
+use Rattle.words.specs.Pool.{outcome}
 use Rattle.words.specs.Listing.{Listing}
-use Rattle.standing.specs.declared.answer.Refusal.the-variants.{AtNull}
-use Rattle.standing.specs.declared.answer.Answer.the-variants.{Refused}
-use Rattle.standing.specs.declared.ends.Ends.{Ends}
-use Rattle.standing.specs.Ends.{isEmpty}
-use Rattle.standing.proofs.Laws.Holds.{name-null}
-use Rattle.cursor.specs.declared.cursor.Cursor.{Cursor}
+use Rattle.answers.specs.declared.Refusal.the-variants.{AtNull}
+use Rattle.answers.specs.declared.Answer.the-variants.{Refused}
+use Rattle.ends.specs.declared.Ends.{Ends}
+use Rattle.ends.specs.Ends.{isEmpty}
+use Rattle.ends.proofs.Laws.Holds.{name-null}
 use Rattle.cursor.specs.Cursor.{nullCursor}
 use Rattle.moves.specs.Moves.{movedNext, movedPrev}
 use Rattle.cursor.specs.Plain.{Place, at, atNull, nodes, mirror, nextPlace, prevPlace, Sound}
+use Rattle.cursor.proofs.Laws.Alone.{same-alone}
 use Rattle.cursor.proofs.Laws.Mirror.{mirror-nodes}
 use Rattle.moves.proofs.Laws.Moves.{next-sound, prev-sound}
 use Rattle.cursor.proofs.Laws.Sound.{sound-ends-test}
 use Rattle.remove.specs.Removes.{removed}
 use Rattle.remove.specs.Plain.{plainRemove}
-use Rattle.edit.specs.Plain.{linkedIn}
+use Rattle.cursor.specs.Does.{linkedIn}
 use Rattle.remove.proofs.Laws.Remove.{removed-does}
-use Rattle.list.specs.Lists.{listed, withoutCursor, popTest, popFront, popBack}
+use Rattle.list.specs.Lists.{listEdited, withoutCursor, popTest, popFront, popBack}
 use Rattle.list.specs.Plain.{asList, plainPopFront, plainPopBack, DoesList}
 use Rattle.list.proofs.Laws.Pushes.{sound-null, does-list}
 
@@ -38,7 +38,7 @@ module _ (ws : List ℕ) (e : Ends) (f : poolFits (length ws) ≡ true) where
   some-test [] x R l = rw (← (l .first)) (name-null x)
   some-test (y ∷ L) x R l = rw (← (l .first)) (name-null y)
 
-  front-none : Listing bitXor ws (e .head .0) (e .tail .0) [] → popFront ws e ≡ outcome ws (listed (Refused AtNull) e)
+  front-none : Listing bitXor ws (e .head .0) (e .tail .0) [] → popFront ws e ≡ outcome ws (listEdited (Refused AtNull) e)
   unfolding popFront
   front-none l = rw (none-test l)
 
@@ -47,7 +47,7 @@ module _ (ws : List ℕ) (e : Ends) (f : poolFits (length ws) ≡ true) where
   unfolding popFront popTest
   front-some L x R l = rw (sound-ends-test ws e (L ++ x ∷ R) f l, some-test L x R l)
 
-  back-none : Listing bitXor ws (e .head .0) (e .tail .0) [] → popBack ws e ≡ outcome ws (listed (Refused AtNull) e)
+  back-none : Listing bitXor ws (e .head .0) (e .tail .0) [] → popBack ws e ≡ outcome ws (listEdited (Refused AtNull) e)
   unfolding popBack
   back-none l = rw (none-test l)
 
@@ -57,8 +57,8 @@ module _ (ws : List ℕ) (e : Ends) (f : poolFits (length ws) ≡ true) where
   back-some L x R l = rw (sound-ends-test ws e (L ++ x ∷ R) f l, some-test L x R l)
 
   nothing : Listing bitXor ws (e .head .0) (e .tail .0) []
-      → DoesList ws [] (outcome ws (listed (Refused AtNull) e)) (asList (plainRemove (linkedIn ws) (atNull [])))
-  nothing l = record { answer = refl; listing = l; marks = λ j. refl; others = λ h t ys k a. k; kept = λ j a b. refl; long = refl }
+      → DoesList ws [] (outcome ws (listEdited (Refused AtNull) e)) (asList (plainRemove (linkedIn ws) (atNull [])))
+  nothing l = record { answer = refl; listing = l; marks = λ j. refl; alone = same-alone ws [] [] }
 
   pub pop-front-does : (xs : List ℕ) → Listing bitXor ws (e .head .0) (e .tail .0) xs → DoesList ws xs (popFront ws e) (plainPopFront (linkedIn ws) xs)
   pop-front-does [] l = rw (front-none l) (nothing l)

@@ -8,16 +8,16 @@ use lib.ListN.{length}
 use Rattle.words.specs.declared.names.Node.{Node}
 use Rattle.words.specs.Names.{poolFits}
 use Rattle.words.specs.Pool.{Outcome}
-use Rattle.words.specs.Listing.{Apart, Listing}
-use Rattle.standing.specs.declared.ends.Ends.{Ends}
-use Rattle.cursor.specs.declared.cursor.Edited.{Edited}
+use Rattle.words.specs.Listing.{Listing}
+use Rattle.ends.specs.declared.Ends.{Ends}
+use Rattle.cursor.specs.declared.Edited.{Edited}
 use Rattle.cursor.specs.Cursor.{nullCursor}
 use Rattle.cursor.specs.Plain.{Place, atNull, nodes, Sound}
-use Rattle.edit.specs.Plain.{Plain, Does, linkedIn}
+use Rattle.cursor.specs.Does.{Plain, Does, linkedIn}
 use Rattle.insert.proofs.Laws.Insert.{insert-after-does}
 use Rattle.insert.proofs.Laws.Mirror.{insert-before-does}
 use Rattle.list.specs.Lists.{withoutCursor, pushFront, pushBack}
-use Rattle.list.specs.Plain.{PlainList, asList, plainPushFront, plainPushBack, DoesList}
+use Rattle.list.specs.Plain.{asList, plainPushFront, plainPushBack, DoesList}
 
 -- the null cursor of a listing is true
 pub sound-null : (ws : List ℕ) (e : Ends) (xs : List ℕ) → Listing bitXor ws (e .head .0) (e .tail .0) xs → Sound ws e (nullCursor e) (atNull xs)
@@ -30,9 +30,7 @@ does-list ws xs z o d e k =
       answer = k .answer;
       listing = k .sound .listing;
       marks = k .marks;
-      others = λ h t ys l a. k .others h t ys l (rw e a);
-      kept = λ j a b. k .kept j (rw e a) b;
-      long = k .long;
+      alone = rw (← e) (k .alone);
     }
 
 module _ (ws : List ℕ) (e : Ends) (xs : List ℕ) (i : Node) (f : poolFits (length ws) ≡ true) (l : Listing bitXor ws (e .head .0) (e .tail .0) xs) where

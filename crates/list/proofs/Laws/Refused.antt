@@ -5,32 +5,32 @@ use mathlib.Core.List.{List}
 use Prim.Native.Nat.{ℕ}
 use Rattle.words.specs.declared.names.Node.{Node}
 use Rattle.words.specs.Pool.{Outcome, outcome}
-use Rattle.standing.specs.declared.ends.Ends.{Ends}
-use Rattle.standing.specs.Answer.{isRefused}
-use Rattle.standing.proofs.Laws.Ladder.{not-both}
-use Rattle.cursor.specs.declared.cursor.Cursor.{Cursor}
-use Rattle.cursor.specs.declared.cursor.Edited.{Edited}
+use Rattle.ends.specs.declared.Ends.{Ends}
+use Rattle.answers.specs.Answer.{isRefused}
+use Rattle.answers.proofs.Laws.Ladder.{not-both}
+use Rattle.cursor.specs.declared.Cursor.{Cursor}
+use Rattle.cursor.specs.declared.Edited.{Edited}
 use Rattle.cursor.specs.Cursor.{nullCursor}
 use Rattle.moves.specs.Moves.{movedNext, movedPrev}
 use Rattle.insert.specs.Inserts.{insertAfter, insertBefore}
 use Rattle.remove.specs.Removes.{removed}
-use Rattle.edit.proofs.Laws.Refused.{Unchanged}
+use Rattle.cursor.proofs.Laws.Refused.{Unchanged}
 use Rattle.remove.proofs.Laws.Refused.{removed-done}
 use Rattle.insert.proofs.Laws.Refused.{insert-after-unchanged, insert-before-unchanged}
-use Rattle.list.specs.declared.list.Listed.{Listed}
-use Rattle.list.specs.Lists.{listed, withoutCursor, pushFront, pushBack, popTest, popFront, popBack}
+use Rattle.list.specs.declared.ListEdited.{ListEdited}
+use Rattle.list.specs.Lists.{listEdited, withoutCursor, pushFront, pushBack, popTest, popFront, popBack}
 
 -- refused, it is all as it was
-abbrev pub UnchangedList : List ℕ → Ends → Outcome Listed → Type 0
-UnchangedList ws e o = isRefused (o .answer .answer) ≡ true → o ≡ outcome ws (listed (o .answer .answer) e)
+abbrev pub UnchangedList : List ℕ → Ends → Outcome ListEdited → Type 0
+UnchangedList ws e o = isRefused (o .result .answer) ≡ true → o ≡ outcome ws (listEdited (o .result .answer) e)
 
 pushed : (ws : List ℕ) (e : Ends) (c : Cursor) (o : Outcome Edited) → Unchanged ws e c o → UnchangedList ws e (withoutCursor o)
 pushed ws e c o k r = ap withoutCursor (k r)
 
-popped : (ws : List ℕ) (e : Ends) (c : Cursor) → UnchangedList ws e (cond (isRefused (popTest ws e)) (outcome ws (listed (popTest ws e) e)) (withoutCursor (removed ws e c)))
+popped : (ws : List ℕ) (e : Ends) (c : Cursor) → UnchangedList ws e (cond (isRefused (popTest ws e)) (outcome ws (listEdited (popTest ws e) e)) (withoutCursor (removed ws e c)))
 popped ws e c = go (isRefused (popTest ws e))
   where
-    go : (b : Bool) → UnchangedList ws e (cond b (outcome ws (listed (popTest ws e) e)) (withoutCursor (removed ws e c)))
+    go : (b : Bool) → UnchangedList ws e (cond b (outcome ws (listEdited (popTest ws e) e)) (withoutCursor (removed ws e c)))
     go true r = refl
     go false r = absurd (not-both (sym r ∙ removed-done ws e c))
 

@@ -1,28 +1,25 @@
 -- On a listing, a move takes a true cursor to the neighbouring place, where it is true. Assumes nothing.
-use mathlib.Core.Path.{_≡_, refl, sym, ap, _∙_}
+use mathlib.Core.Path.{_≡_, refl, sym, _∙_}
 use mathlib.Core.Bool.{Bool, true, false, cond}
 use mathlib.Core.List.{List, [], _∷_, _++_, append-assoc}
 use Prim.Native.Nat.{ℕ}
 use lib.Bits.{bitXor}
-use lib.Dec.{eqb}
 use lib.ListN.{length}
-use borrow.Author.Tests.{eq-eqb}
 use Rattle.words.specs.Names.{name, isNull, poolFits}
 use Rattle.words.specs.Pool.{wordAt}
-use Rattle.words.specs.LinkOps.{nextOf, prevOf}
+use Rattle.links.specs.XorOps.{nextOf, prevOf}
 use Rattle.words.specs.Listing.{front, back, Listing}
-use Rattle.words.proofs.Laws.Xor.{xor-comm, xor-twice-l}
+use Rattle.links.proofs.Laws.Xor.{xor-comm, xor-twice-l}
 use Rattle.words.proofs.Laws.Pool.{word-name}
 use Rattle.words.proofs.Laws.Chain.{chain-split, back-append}
-use Rattle.standing.specs.declared.answer.Answer.the-variants.{Done}
-use Rattle.standing.specs.declared.ends.Ends.{Ends}
-use Rattle.standing.specs.Ends.{turned}
-use Rattle.standing.proofs.Laws.Holds.{name-null}
-use Rattle.cursor.specs.declared.cursor.Cursor.{Cursor}
-use Rattle.cursor.specs.declared.cursor.Edited.{Edited}
-use Rattle.cursor.specs.Cursor.{cursorOf, nullCursor, turnedCursor, edited, standTest}
+use Rattle.answers.specs.declared.Answer.the-variants.{Done}
+use Rattle.ends.specs.declared.Ends.{Ends}
+use Rattle.ends.specs.Ends.{turned}
+use Rattle.ends.proofs.Laws.Holds.{name-null}
+use Rattle.cursor.specs.declared.Cursor.{Cursor}
+use Rattle.cursor.specs.Cursor.{cursorOf, nullCursor, turnedCursor, edited}
 use Rattle.moves.specs.Moves.{movedNext, movedPrev, moveNext, movePrev}
-use Rattle.cursor.specs.Plain.{Place, at, atNull, nodes, mirror, nextPlace, prevPlace, TrueAt, Sound}
+use Rattle.cursor.specs.Plain.{Place, at, atNull, mirror, nextPlace, prevPlace, Sound}
 use Rattle.cursor.proofs.Laws.Mirror.{sound-mirror}
 use Rattle.cursor.proofs.Laws.Sound.{sound-test}
 

@@ -10,18 +10,35 @@ stand-test-requires c κs = search needs
 is-refused-requires : tie.Need-is-refused-requires
 is-refused-requires c κs = search needs
 
+new-requires : tie.Need-new-requires
+new-requires c κs = search needs
+
 returns : tie.Need-returns
 unfolding moveNext
-returns c = rw (← (c .before .before .stand-test .ensures), ← (c .before .is-refused .ensures), c .if1 .taken)
+returns c =
+    let t = c .before in
+    rw (c .new .ensures, ← (t .before .before .stand-test .ensures), ← (t .before .is-refused .ensures), t .if1 .taken)
 
 next-place-requires : tie.Need-next-place-requires
 next-place-requires c κs = search needs
 
+new-requires-2 : tie.Need-new-requires-2
+new-requires-2 c κs = search needs
+
 returns-2 : tie.Need-returns-2
 unfolding moveNext
-returns-2 c = rw (← (c .before .before .before .stand-test .ensures), ← (c .before .before .is-refused .ensures), c .before .if1 .left, ← (c .next-place .ensures))
+returns-2 c =
+    let t = c .before .before in
+    rw (c .new2 .ensures, c .before .next-place .ensures, ← (t .before .before .stand-test .ensures), ← (t .before .is-refused .ensures), t .if1 .left)
 
 pub move-next-spec : {M : Type 1} → statement M
 move-next-spec =
     tie.close
-    (tie.spec stand-test-requires is-refused-requires returns next-place-requires returns-2)
+    (tie.spec
+    stand-test-requires
+    is-refused-requires
+    new-requires
+    returns
+    next-place-requires
+    new-requires-2
+    returns-2)

@@ -1,30 +1,29 @@
 -- A real pair of node and neighbour is placed, and the cursor is true. Assumes nothing.
-use mathlib.Core.Path.{_≡_, refl, sym, ap, _∙_}
-use mathlib.Core.Bool.{true, false}
-use mathlib.Core.List.{List, [], _∷_, _++_}
-use Prim.Native.Nat.{ℕ, _+_, _*_, _<_}
+use mathlib.Core.Path.{_≡_, ap}
+use mathlib.Core.Bool.{true}
+use mathlib.Core.List.{List, _∷_, _++_}
+use Prim.Native.Nat.{ℕ, _+_, _<_}
 use lib.Bits.{bitXor}
-use lib.Dec.{ltb}
 use lib.ListN.{length}
 use borrow.Author.Tests.{lt-ltb}
 use Rattle.words.specs.declared.names.Node.{Node}
 use Rattle.words.specs.declared.names.Name.{Name}
 use Rattle.words.specs.declared.names.Found.{Found}
 use Rattle.words.specs.Names.{name, poolFits, naming}
-use Rattle.words.specs.LinkOps.{nextOf, prevOf}
+use Rattle.links.specs.XorOps.{nextOf, prevOf}
 use Rattle.words.specs.Listing.{front, back, Listing}
 use Rattle.words.proofs.Laws.Nodes.{all-right}
-use Rattle.words.proofs.Laws.Xor.{xor-twice-r}
+use Rattle.links.proofs.Laws.Xor.{xor-twice-r}
 use Rattle.words.proofs.Laws.Pool.{word-name}
 use Rattle.words.proofs.Laws.Chain.{chain-split}
-use Rattle.standing.specs.declared.answer.Answer.the-variants.{Done}
-use Rattle.standing.specs.declared.ends.Ends.{Ends}
-use Rattle.cursor.specs.declared.cursor.Cursor.{Cursor}
-use Rattle.cursor.specs.Cursor.{cursorOf, cursorStands, edited}
-use Rattle.cursor.specs.Plain.{at, nodes, TrueAt, Sound}
+use Rattle.answers.specs.declared.Answer.the-variants.{Done}
+use Rattle.ends.specs.declared.Ends.{Ends}
+use Rattle.cursor.specs.declared.Cursor.{Cursor}
+use Rattle.cursor.specs.Cursor.{cursorOf, edited}
+use Rattle.cursor.specs.Plain.{at, Sound}
 use Rattle.cursor.proofs.Laws.Sound.{sound-ends-test, sound-stands}
 use Rattle.moves.proofs.Laws.Moves.{next-name}
-use Rattle.edit.proofs.Laws.Common.{naming-in}
+use Rattle.cursor.proofs.Laws.Common.{naming-in}
 use Rattle.place.specs.Places.{claimed, known, claimTest, placed, placeByPrev, placeByNext}
 
 -- the cursor that a claim comes to

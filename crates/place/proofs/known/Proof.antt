@@ -1,5 +1,5 @@
 -- `known` meets its contract. Assumes nothing.
-use mathlib.Core.Path.{sym, ap, _∙_}
+use mathlib.Core.Path.{sym, ap}
 use borrow.Author.Needs.{needs}
 use Rattle.place.specs.Places.{known}
 use Rattle.place.proofs.known.Statement.{statement}

@@ -1,30 +1,28 @@
 -- What passing the tests of a read tells, and that the record is there. Assumes nothing.
-use mathlib.Core.Path.{_≡_, refl, sym, ap, _∙_}
-use mathlib.Core.Bool.{Bool, true, false, not, cond, _&&_}
-use mathlib.Core.List.{List, [], _∷_, _++_}
-use Prim.Native.Nat.{ℕ, suc, _+_, _*_, _/_, _-_, _^_, _<_, _≤_}
+use mathlib.Core.Path.{_≡_, sym, _∙_}
+use mathlib.Core.Bool.{true, false, not, _&&_}
+use mathlib.Core.List.{List}
+use Prim.Native.Nat.{ℕ, suc, _+_, _*_, _-_, _^_, _<_, _≤_}
 use native.Mathlib.Omega.{arith}
 use native.Mathlib.Nat.{mul-le-mul, mul-le-mul-right, suc-mul, mul-comm}
-use lib.Bits.{bitXor}
 use lib.Dec.{ltb, leb, eqb}
 use lib.ListN.{length, drop, length-drop}
 use lib.Seq.{length-take-le}
 use borrow.Author.Tests.{ltb-true, leb-true, eqb-true, not-true}
 use Rattle.words.specs.declared.names.Node.{Node}
 use Rattle.words.specs.declared.names.Found.the-variants.{At, Nothing}
-use Rattle.words.specs.Names.{name, nodeOf, isName, isNull, poolFits, decoding}
-use Rattle.words.specs.Listing.{Listing}
+use Rattle.words.specs.Names.{nodeOf, isName, isNull, poolFits, decoding}
 use Rattle.words.proofs.Laws.Cases.{both}
 use Rattle.words.proofs.Laws.Names.{fits-small, node-name, decoded, undecoded}
-use Rattle.standing.specs.declared.answer.Refusal.the-variants.{Size, CursorDoesNotStand, AtNull}
-use Rattle.standing.specs.declared.answer.Answer.the-variants.{Done, Refused}
-use Rattle.standing.specs.declared.ends.Ends.{Ends}
-use Rattle.standing.specs.Answer.{need, isRefused}
-use Rattle.standing.specs.Tests.{endsTest}
-use Rattle.standing.proofs.Laws.Ladder.{not-both, passed, passed-both}
-use Rattle.standing.proofs.Laws.Stands.{stands-named}
-use Rattle.standing.proofs.Laws.Holds.{name-null}
-use Rattle.cursor.specs.declared.cursor.Cursor.{Cursor}
+use Rattle.answers.specs.declared.Refusal.the-variants.{Size, CursorDoesNotStand, AtNull}
+use Rattle.answers.specs.declared.Answer.the-variants.{Done, Refused}
+use Rattle.ends.specs.declared.Ends.{Ends}
+use Rattle.answers.specs.Answer.{need, isRefused}
+use Rattle.ends.specs.Tests.{endsTest}
+use Rattle.answers.proofs.Laws.Ladder.{not-both, passed, passed-both}
+use Rattle.ends.proofs.Laws.Stands.{stands-named}
+use Rattle.ends.proofs.Laws.Holds.{name-null}
+use Rattle.cursor.specs.declared.Cursor.{Cursor}
 use Rattle.cursor.specs.Cursor.{cursorStands, standTest, someTest}
 use Rattle.cursor.specs.Plain.{at, atNull, Sound}
 use Rattle.cursor.proofs.Laws.Sound.{sound-test}

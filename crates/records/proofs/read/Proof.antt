@@ -3,7 +3,7 @@ use mathlib.Core.Path.{sym, ap, _∙_}
 use native.Mathlib.Omega.{arith}
 use native.Mathlib.Nat.{add-sub-cancel-left}
 use borrow.Author.Needs.{needs}
-use Rattle.standing.specs.Answer.{isRefused}
+use Rattle.answers.specs.Answer.{isRefused}
 use Rattle.records.specs.Records.{readAt}
 use Rattle.records.proofs.Laws.Read.{located, never-nothing}
 use Rattle.records.proofs.Laws.Read.{located, never-nothing}

@@ -1,9 +1,8 @@
 -- `records_fit` meets its contract. Assumes nothing.
 use mathlib.Core.Path.{sym, _∙_}
 use native.Mathlib.Omega.{arith}
-use borrow.Author.Tests.{not-true, not-false, lt-leb, le-leb, leb-true}
+use borrow.Author.Tests.{not-true, not-false, lt-leb, le-leb}
 use borrow.Author.Needs.{needs}
-use Rattle.words.specs.Names.{poolFits}
 use Rattle.records.specs.Records.{recordsFit}
 use Rattle.records.proofs.Laws.Read.{small-pool}
 use Rattle.records.proofs.records_fit.Statement.{statement}

@@ -6,14 +6,13 @@ use Rattle.words.specs.declared.names.Node.{Node}
 use Rattle.words.specs.Names.{naming}
 use Rattle.words.specs.Changes.{AtMostFour}
 use Rattle.words.proofs.Laws.Pool.{few-unless}
-use Rattle.words.proofs.Laws.Cuts.{takenOut, taken-changes, exchanged, exchanged-changes}
-use Rattle.standing.specs.declared.ends.Ends.{Ends}
-use Rattle.standing.specs.Answer.{isRefused}
-use Rattle.cursor.specs.declared.cursor.Cursor.{Cursor}
-use Rattle.cursor.specs.Cursor.{edited, standTest, nodeTest, someTest}
-use Rattle.edit.specs.Edits.{acquiring}
+use Rattle.links.proofs.Laws.Cuts.{takenOut, taken-changes, exchanged, exchanged-changes}
+use Rattle.ends.specs.declared.Ends.{Ends}
+use Rattle.answers.specs.Answer.{isRefused}
+use Rattle.cursor.specs.declared.Cursor.{Cursor}
+use Rattle.cursor.specs.Cursor.{standTest, nodeTest, someTest, acquireNode}
 use Rattle.remove.specs.Removes.{removed, remove, replaced, replace}
-use Rattle.edit.proofs.Laws.Few.{acquire-steps}
+use Rattle.cursor.proofs.Laws.Few.{acquire-steps}
 
 pub removed-few : (ws : List ℕ) (e : Ends) (c : Cursor) → AtMostFour ws (removed ws e c .words)
 unfolding removed takenOut
@@ -27,6 +26,7 @@ remove-few ws e c = few-unless (isRefused (someTest (standTest ws e c) c)) ws _ 
 pub replace-few : (ws : List ℕ) (e : Ends) (c : Cursor) (i : Node) → AtMostFour ws (replace ws e c i .words)
 unfolding replace replaced exchanged
 replace-few ws e c i =
-    few-unless (isRefused (someTest (nodeTest ws e c i) c)) ws (edited (someTest (nodeTest ws e c i) c) e c) (acquiring ws e c (naming i) (λ l. replaced l e c (naming i)))
-    (acquire-steps ws e c (naming i) (λ l. replaced l e c (naming i)) (c .prev .0) (c .next .0) (c .current .0)
-    (λ l. exchanged-changes l (naming i .0) (c .current .0) (c .prev .0) (c .next .0)))
+    let t = someTest (nodeTest ws e c i) c in
+    let l = acquireNode ws t (naming i) .words in
+    acquire-steps ws e c t (naming i) (replaced l e c (naming i)) (c .prev .0) (c .next .0) (c .current .0)
+    (exchanged-changes l (naming i .0) (c .current .0) (c .prev .0) (c .next .0))

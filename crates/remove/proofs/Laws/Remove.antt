@@ -10,29 +10,31 @@ use lib.ListN.{length}
 use Rattle.words.specs.declared.names.Name.{Name}
 use Rattle.words.specs.Names.{name, isNull, isLinked, poolFits, decoding}
 use Rattle.words.specs.Pool.{outcome}
-use Rattle.words.specs.LinkOps.{nextOf}
+use Rattle.links.specs.XorOps.{nextOf}
 use Rattle.words.specs.Listing.{Off, front, back, Listing}
-use Rattle.words.proofs.Laws.Nodes.{all-map, all-append}
+use Rattle.words.proofs.Laws.Nodes.{all-append}
 use Rattle.words.proofs.Laws.Names.{name-is, node-name}
 use Rattle.words.proofs.Laws.Chain.{front-append, back-append}
 use Rattle.words.proofs.Laws.Listing.{listing-as}
-use Rattle.words.proofs.Laws.Outside.{Outside, covered-here, covered-more, covered-left, covered-right, covered-front, covered-back, changes-outside, listing-outside, listing-linked}
-use Rattle.words.proofs.Laws.Cuts.{sides, takenOut, taken-out, taken-word, taken-changes}
-use Rattle.standing.specs.declared.answer.Refusal.the-variants.{AtNull}
-use Rattle.standing.specs.declared.answer.Answer.the-variants.{Handed, Refused}
-use Rattle.standing.specs.declared.ends.Ends.{Ends}
-use Rattle.standing.specs.Answer.{handing}
-use Rattle.standing.specs.Ends.{endsOf}
-use Rattle.standing.proofs.Laws.Holds.{name-null}
-use Rattle.cursor.specs.declared.cursor.Cursor.{Cursor}
+use Rattle.words.proofs.Laws.Outside.{Outside, covered-here, covered-more, covered-left, covered-right, covered-front, covered-back, changes-outside}
+use Rattle.links.proofs.Laws.XorListing.{xor-listing-linked}
+use Rattle.links.proofs.Laws.Cuts.{sides, takenOut, taken-out, taken-word, taken-changes}
+use Rattle.answers.specs.declared.Refusal.the-variants.{AtNull}
+use Rattle.answers.specs.declared.Answer.the-variants.{Handed, Refused}
+use Rattle.ends.specs.declared.Ends.{Ends}
+use Rattle.answers.specs.Answer.{handing}
+use Rattle.ends.specs.Ends.{endsOf}
+use Rattle.ends.proofs.Laws.Holds.{name-null}
+use Rattle.cursor.specs.declared.Cursor.{Cursor}
 use Rattle.cursor.specs.Cursor.{cursorOf, nullCursor, edited, someTest}
-use Rattle.cursor.specs.Plain.{Place, at, atNull, Sound}
+use Rattle.cursor.specs.Plain.{Place, at, atNull, nodes, Sound}
+use Rattle.cursor.proofs.Laws.Alone.{outside-alone, more-alone}
 use Rattle.cursor.proofs.Laws.Sound.{sound-test}
 use Rattle.moves.proofs.Laws.Moves.{next-name}
 use Rattle.remove.specs.Removes.{removed, remove}
-use Rattle.edit.specs.Plain.{Does, linkedIn}
+use Rattle.cursor.specs.Does.{Does, linkedIn}
 use Rattle.remove.specs.Plain.{placeWithout, plainRemove}
-use Rattle.edit.proofs.Laws.Common.{marks-unlinking, refused-does}
+use Rattle.cursor.proofs.Laws.Common.{marks-unlinking, refused-does}
 use Rattle.cursor.proofs.Laws.Swap.{head-swap, tail-swap, all-out}
 
 -- the node under a true cursor is handed out
@@ -47,7 +49,7 @@ words ws L x R = takenOut ws (name x) (back 0 L) (front R 0)
 abbrev ends : Ends → Cursor → Ends
 ends e c = endsOf (cond (eqb (e .head .0) (c .current .0)) (c .next) (e .head)) (cond (eqb (e .tail .0) (c .current .0)) (c .prev) (e .tail))
 
-removed-ends : (ws : List ℕ) (e : Ends) (c : Cursor) → removed ws e c .answer .ends ≡ ends e c
+removed-ends : (ws : List ℕ) (e : Ends) (c : Cursor) → removed ws e c .result .ends ≡ ends e c
 unfolding removed
 removed-ends ws e c = refl
 
@@ -80,17 +82,17 @@ module _ (ws : List ℕ) (e : Ends) (c : Cursor) (L : List ℕ) (x : ℕ) (R : L
   gone = rw (taken-word ws (e .head .0) (e .tail .0) L x R (s .listing))
 
 -- the cursor that is left, with nothing beyond and with a node beyond
-cursor-last : (ws : List ℕ) (e : Ends) (c : Cursor) (L : List ℕ) (x : ℕ) (s : Sound ws e c (at L x [])) → removed ws e c .answer .cursor ≡ nullCursor (removed ws e c .answer .ends)
+cursor-last : (ws : List ℕ) (e : Ends) (c : Cursor) (L : List ℕ) (x : ℕ) (s : Sound ws e c (at L x [])) → removed ws e c .result .cursor ≡ nullCursor (removed ws e c .result .ends)
 unfolding removed
 cursor-last ws e c L x s = rw (s .place .2)
 
 cursor-more : (ws : List ℕ) (e : Ends) (c : Cursor) (L : List ℕ) (x y : ℕ) (R : List ℕ) (s : Sound ws e c (at L x (y ∷ R)))
-    → removed ws e c .answer .cursor ≡ cursorOf (c .next) (c .prev) (record { 0 = nextOf (removed ws e c .words) (c .next .0) (c .prev .0) })
+    → removed ws e c .result .cursor ≡ cursorOf (c .next) (c .prev) (record { 0 = nextOf (removed ws e c .words) (c .next .0) (c .prev .0) })
 unfolding removed
 cursor-more ws e c L x y R s = let n : isNull (c .next) ≡ false = rw (s .place .2) (name-null y) in rw n
 
 sound-left : (ws : List ℕ) (e : Ends) (c : Cursor) (L : List ℕ) (x : ℕ) (R : List ℕ) (s : Sound ws e c (at L x R))
-    → Sound (removed ws e c .words) (removed ws e c .answer .ends) (removed ws e c .answer .cursor) (placeWithout L R)
+    → Sound (removed ws e c .words) (removed ws e c .result .ends) (removed ws e c .result .cursor) (placeWithout L R)
 sound-left ws e c L x [] s =
     let l : Listing bitXor (words ws L x []) (ends e c .head .0) (ends e c .tail .0) L = rw (append-nil L) at (listed ws e c L x [] s) in
     rw (cursor-last ws e c L x s, removed-words ws e c L x [] s, removed-ends ws e c)
@@ -114,7 +116,7 @@ null-call : (ws : List ℕ) (e : Ends) (c : Cursor) (xs : List ℕ) → poolFits
 unfolding remove someTest
 null-call ws e c xs f s = let n : isNull (c .current) ≡ true = rw (s .place .0) in rw (sound-test ws e c (atNull xs) f s, n)
 
-answer-is : (ws : List ℕ) (e : Ends) (c : Cursor) → removed ws e c .answer .answer ≡ handing (decoding (length ws) (c .current))
+answer-is : (ws : List ℕ) (e : Ends) (c : Cursor) → removed ws e c .result .answer ≡ handing (decoding (length ws) (c .current))
 unfolding removed
 answer-is ws e c = refl
 
@@ -123,19 +125,17 @@ pub removed-does : (ws : List ℕ) (e : Ends) (c : Cursor) (L : List ℕ) (x : �
 removed-does ws e c L x R s =
     let d = sides ws (e .head .0) (e .tail .0) L x R (s .listing) in
     let w = removed-words ws e c L x R s in
-    let old = listing-linked ws (e .head .0) (e .tail .0) (L ++ x ∷ R) (s .listing) in
-    let new = listing-linked _ _ _ (L ++ R) (listed ws e c L x R s) in
+    let old = xor-listing-linked ws (e .head .0) (e .tail .0) (L ++ x ∷ R) (s .listing) in
+    let new = xor-listing-linked _ _ _ (L ++ R) (listed ws e c L x R s) in
     let o = out ws e c L x R s in
     let off : Off x (L ++ R) = all-append (λ y. y ≢ x) L R (d .offL) (d .offR) in
     record {
       answer = answer-is ws e c ∙ hands-out (length ws) (c .current) x (d .here) (s .place .0);
       sound = sound-left ws e c L x R s;
       marks = rw w (marks-unlinking ws _ x (L ++ R) o off (all-out (λ y. linkedIn ws y ≡ true) L x R old .1) new (gone ws e c L x R s));
-      others = λ h t ys l apart.
-          rw w (listing-outside bitXor (x ∷ (L ++ R)) ws _ o h t ys
-          (all-map (λ y. Off y (L ++ x ∷ R)) (λ y. Off y (x ∷ (L ++ R))) (λ y p. all-out (λ v. v ≢ y) L x R p) ys apart) l);
-      kept = λ j a b. rw w (o .same j (all-out (λ y. y ≢ j) L x R a));
-      long = rw w (o .long);
+      alone =
+          rw w (more-alone ws _ (x ∷ (L ++ R)) (nodes (placeWithout L R)) (L ++ x ∷ R) (nodes (placeWithout L R)) (λ P. all-out P L x R) (λ P b. b)
+          (outside-alone ws _ (x ∷ (L ++ R)) (nodes (placeWithout L R)) o));
     }
 
 pub remove-does : (ws : List ℕ) (e : Ends) (c : Cursor) (z : Place) → poolFits (length ws) ≡ true → Sound ws e c z

@@ -9,7 +9,7 @@ use lib.Dec.{ltb, eqb}
 use lib.ListN.{length}
 use borrow.Author.Tests.{ltb-true, eq-eqb, ne-eqb}
 use Rattle.words.specs.declared.names.Node.{Node}
-use Rattle.words.specs.Names.{name, isNull, isLinked, poolFits}
+use Rattle.words.specs.Names.{name, isNull, isLinked, poolFits, naming}
 use Rattle.words.specs.Pool.{putAt, outcome}
 use Rattle.words.specs.Listing.{All, Off, front, back}
 use Rattle.words.proofs.Laws.Cases.{same-or-not}
@@ -17,19 +17,20 @@ use Rattle.words.proofs.Laws.Nodes.{all-map, all-both, all-append, all-right}
 use Rattle.words.proofs.Laws.Pool.{changes-put, put-length}
 use Rattle.words.proofs.Laws.Chain.{front-append, back-append}
 use Rattle.words.proofs.Laws.Listing.{listing-as}
-use Rattle.words.proofs.Laws.Outside.{Outside, covered-here, covered-more, covered-left, covered-right, covered-front, covered-back, changes-outside, listing-outside, listing-linked, marks-agree}
-use Rattle.words.proofs.Laws.Cuts.{sides, exchanged, exchanged-listing, exchanged-word, exchanged-changes}
-use Rattle.standing.specs.declared.answer.Refusal.the-variants.{NoSuchNode, AtNull, AlreadyLinked}
-use Rattle.standing.specs.declared.answer.Answer.the-variants.{Handed, Refused}
-use Rattle.standing.specs.declared.ends.Ends.{Ends}
-use Rattle.standing.proofs.Laws.Holds.{name-null}
-use Rattle.cursor.specs.declared.cursor.Cursor.{Cursor}
+use Rattle.words.proofs.Laws.Outside.{Outside, covered-here, covered-more, covered-left, covered-right, covered-front, covered-back, changes-outside, marks-agree}
+use Rattle.links.proofs.Laws.XorListing.{xor-listing-linked}
+use Rattle.links.proofs.Laws.Cuts.{sides, exchanged, exchanged-listing, exchanged-word, exchanged-changes}
+use Rattle.answers.specs.declared.Refusal.the-variants.{NoSuchNode, AtNull, AlreadyLinked}
+use Rattle.answers.specs.declared.Answer.the-variants.{Handed, Refused}
+use Rattle.ends.specs.declared.Ends.{Ends}
+use Rattle.ends.proofs.Laws.Holds.{name-null}
+use Rattle.cursor.specs.declared.Cursor.{Cursor}
 use Rattle.cursor.specs.Cursor.{edited, someTest}
 use Rattle.cursor.specs.Plain.{Place, at, atNull, Sound}
 use Rattle.remove.specs.Removes.{replaced, replace}
-use Rattle.edit.specs.Plain.{plain, linking, unlinking, Does, linkedIn}
+use Rattle.cursor.specs.Does.{plain, linking, unlinking, Does, linkedIn}
 use Rattle.remove.specs.Plain.{plainReplace}
-use Rattle.edit.proofs.Laws.Common.{named, naming-in, sound-node-test, acquire-linked, acquire-free, free-off, sound-acquired, refused-does}
+use Rattle.cursor.proofs.Laws.Common.{named, naming-in, sound-node-test, acquire-refused, acquire-linked, acquire-free, free-off, sound-acquired, acquired-alone, refused-does}
 use Rattle.cursor.proofs.Laws.Swap.{head-swap, tail-swap, all-out}
 use Rattle.remove.proofs.Laws.Remove.{hands-out}
 
@@ -41,7 +42,7 @@ module _ (ws : List ℕ) (e : Ends) (c : Cursor) (L : List ℕ) (x : ℕ) (R : L
   replaced-words = rw (s .place .0, s .place .1, s .place .2)
 
   replaced-sound : Off i (L ++ x ∷ R) → i < length ws
-      → Sound (replaced ws e c (named i) .words) (replaced ws e c (named i) .answer .ends) (replaced ws e c (named i) .answer .cursor) (at L i R)
+      → Sound (replaced ws e c (named i) .words) (replaced ws e c (named i) .result .ends) (replaced ws e c (named i) .result .cursor) (at L i R)
   unfolding replaced
   replaced-sound o r =
       let d = sides ws (e .head .0) (e .tail .0) L x R (s .listing) in
@@ -54,7 +55,7 @@ module _ (ws : List ℕ) (e : Ends) (c : Cursor) (L : List ℕ) (x : ℕ) (R : L
         place = (refl, s .place .1, s .place .2);
       }
 
-  replaced-answer : replaced ws e c (named i) .answer .answer ≡ Handed (record { 0 = x })
+  replaced-answer : replaced ws e c (named i) .result .answer ≡ Handed (record { 0 = x })
   unfolding replaced
   replaced-answer =
       hands-out (length ws) (c .current) x (sides ws (e .head .0) (e .tail .0) L x R (s .listing) .here) (s .place .0)
@@ -99,11 +100,11 @@ module _ (ws : List ℕ) (e : Ends) (c : Cursor) (z : Place) (i : Node) (f : poo
   -- how it comes out, by its tests
   call-past : ltb (i .0) (length ws) ≡ false → replace ws e c i ≡ outcome ws (edited (Refused NoSuchNode) e c)
   unfolding replace someTest
-  call-past h = rw (sound-node-test ws e c z i f s, h)
+  call-past h = rw (sound-node-test ws e c z i f s, h, acquire-refused ws NoSuchNode (naming i))
 
   call-null : ltb (i .0) (length ws) ≡ true → isNull (c .current) ≡ true → replace ws e c i ≡ outcome ws (edited (Refused AtNull) e c)
   unfolding replace someTest
-  call-null h n = rw (sound-node-test ws e c z i f s, h, n)
+  call-null h n = rw (sound-node-test ws e c z i f s, h, n, acquire-refused ws AtNull (naming i))
 
   call-taken : ltb (i .0) (length ws) ≡ true → isNull (c .current) ≡ false → linkedIn ws (i .0) ≡ true
       → replace ws e c i ≡ outcome ws (edited (Refused AlreadyLinked) e c)
@@ -146,20 +147,16 @@ module _ (ws : List ℕ) (e : Ends) (c : Cursor) (i : Node) (f : poolFits (lengt
           long = o1 .long ∙ long1;
           same = λ j o. o1 .same j o ∙ changes-put ws (name m) 0 .same j (covered-here m (x ∷ (L ++ R)) j o, tt);
         } in
-        let old = all-out (λ y. linkedIn ws y ≡ true) L x R (listing-linked ws (e .head .0) (e .tail .0) (L ++ x ∷ R) (s .listing)) in
-        let new = all-out (λ y. linkedIn w' y ≡ true) L m R (listing-linked w' _ _ (L ++ m ∷ R) (k .listing)) in
+        let old = all-out (λ y. linkedIn ws y ≡ true) L x R (xor-listing-linked ws (e .head .0) (e .tail .0) (L ++ x ∷ R) (s .listing)) in
+        let new = all-out (λ y. linkedIn w' y ≡ true) L m R (xor-listing-linked w' _ _ (L ++ m ∷ R) (k .listing)) in
         record {
           answer = replaced-answer ws1 e c L x R m s1;
           sound = k;
           marks =
               marks-exchanged ws w' (L ++ R) x m out (all-right (λ y. y ≢ m) L (x ∷ R) off .0)
               (all-append (λ y. y ≢ x) L R (d .offL) (d .offR)) (old .1) new (replaced-gone ws1 e c L x R m s1 off);
-          others = λ h' t' ys l' apart.
-              listing-outside bitXor (m ∷ x ∷ (L ++ R)) ws w' out h' t' ys
-              (all-map (λ y. (y ≢ m) × Off y (L ++ x ∷ R)) (λ y. Off y (m ∷ x ∷ (L ++ R))) (λ y p. (λ q. p .0 (sym q), all-out (λ v. v ≢ y) L x R (p .1))) ys
-              (all-both (λ y. y ≢ m) (λ y. Off y (L ++ x ∷ R)) ys (free-off ws h' t' ys m l' l) apart)) l';
-          kept = λ j a b. out .same j (all-right (λ y. y ≢ j) L (m ∷ R) b .0, all-out (λ y. y ≢ j) L x R a);
-          long = out .long;
+          alone =
+              acquired-alone ws w' (L ++ x ∷ R) (L ++ m ∷ R) (x ∷ (L ++ R)) m l out (λ P. all-out P L x R) (λ P b. all-right P L (m ∷ R) b .0);
         }
 
     node-does : Does ws (at L x R) (replace ws e c i) (plainReplace (length ws) (linkedIn ws) (i .0) (at L x R))

@@ -35,25 +35,50 @@ is-null-requires c κs = search needs
 null-requires : tie.Need-null-requires
 null-requires c κs = search needs
 
+new-requires-2 : tie.Need-new-requires-2
+new-requires-2 c κs = search needs
+
 same-length : tie.Need-same-length
-same-length c = c .before .before .before .before .before .before .before .before .before .before .before .before .replace-next-or-prev2 .kept .0 ∙ c .before .before .before .before .before .before .before .before .before .before .before .before .before .before .before .before .replace-next-or-prev .kept .0 ∙ c .before .before .before .before .before .before .before .before .before .before .before .before .before .before .before .before .before .before .before .before .release-link .kept .0
+same-length c =
+    let k = c .before .before .before .before .before .before .before .before .before .before .before .before .before in
+    let m = k .before .before .before .before in
+    k .replace-next-or-prev2 .kept .0 ∙ m .replace-next-or-prev .kept .0 ∙ m .before .before .before .before .release-link .kept .0
 
 returns : tie.Need-returns
 unfolding removed
-returns c = rw (← (c .before .before .is-null .ensures), c .before .if1 .taken, c .null .ensures, c .before .before .before .new .ensures, c .before .before .before .before .either2 .ensures, c .before .before .before .before .before .before .before .either .ensures, c .before .before .before .before .before .before .before .before .before .before .before .before .before .before .before .before .before .before .before .before .before .before .handing .ensures, c .before .before .before .before .before .before .before .before .before .before .before .before .before .before .before .before .before .before .before .before .before .before .before .decode .ensures, c .before .before .before .before .before .before .before .before .before .before .before .before .replace-next-or-prev2 .ensures, c .before .before .before .before .before .before .before .before .before .before .before .before .before .before .before .before .replace-next-or-prev .ensures, c .before .before .before .before .before .before .before .before .before .before .before .before .before .before .before .before .before .before .before .before .release-link .ensures)
+returns c =
+    let k = c .before .before .before in
+    let m = k .before .before .before .before .before in
+    let n = m .before .before .before .before .before in
+    let p = n .before .before .before .before in
+    let q = p .before .before .before .before in
+    rw (← (k .is-null .ensures), c .before .before .if1 .taken, c .new2 .ensures, c .before .null .ensures, k .before .new .ensures, k .before .before .either2 .ensures, m .either .ensures, q .before .before .handing .ensures, q .before .before .before .decode .ensures, n .replace-next-or-prev2 .ensures, p .replace-next-or-prev .ensures, q .release-link .ensures)
 
 next-requires : tie.Need-next-requires
 next-requires c κs = search needs
 
-new-requires-2 : tie.Need-new-requires-2
-new-requires-2 c κs = search needs
+new-requires-3 : tie.Need-new-requires-3
+new-requires-3 c κs = search needs
+
+new-requires-4 : tie.Need-new-requires-4
+new-requires-4 c κs = search needs
 
 same-length-2 : tie.Need-same-length-2
-same-length-2 c = c .before .before .before .before .before .before .before .before .before .before .before .before .before .before .replace-next-or-prev2 .kept .0 ∙ c .before .before .before .before .before .before .before .before .before .before .before .before .before .before .before .before .before .before .replace-next-or-prev .kept .0 ∙ c .before .before .before .before .before .before .before .before .before .before .before .before .before .before .before .before .before .before .before .before .before .before .release-link .kept .0
+same-length-2 c =
+    let k = c .before .before .before .before .before .before .before .before .before .before .before .before .before .before .before in
+    let m = k .before .before .before .before in
+    k .replace-next-or-prev2 .kept .0 ∙ m .replace-next-or-prev .kept .0 ∙ m .before .before .before .before .release-link .kept .0
 
 returns-2 : tie.Need-returns-2
 unfolding removed
-returns-2 c = rw (← (c .before .before .before .before .is-null .ensures), c .before .before .before .if1 .left, c .new2 .ensures, c .before .next2 .ensures, c .before .before .before .before .before .new .ensures, c .before .before .before .before .before .before .either2 .ensures, c .before .before .before .before .before .before .before .before .before .either .ensures, c .before .before .before .before .before .before .before .before .before .before .before .before .before .before .before .before .before .before .before .before .before .before .before .before .handing .ensures, c .before .before .before .before .before .before .before .before .before .before .before .before .before .before .before .before .before .before .before .before .before .before .before .before .before .decode .ensures, c .before .before .before .before .before .before .before .before .before .before .before .before .before .before .replace-next-or-prev2 .ensures, c .before .before .before .before .before .before .before .before .before .before .before .before .before .before .before .before .before .before .replace-next-or-prev .ensures, c .before .before .before .before .before .before .before .before .before .before .before .before .before .before .before .before .before .before .before .before .before .before .release-link .ensures)
+returns-2 c =
+    let k = c .before .before .before .before in
+    let m = k .before .before .before in
+    let n = m .before .before .before in
+    let p = n .before .before .before .before .before in
+    let q = p .before .before .before .before in
+    let v = q .before .before .before .before in
+    rw (← (k .before .is-null .ensures), k .if1 .left, c .new4 .ensures, c .before .new3 .ensures, c .before .before .next2 .ensures, k .before .before .new .ensures, m .either2 .ensures, n .either .ensures, v .before .before .handing .ensures, v .before .before .before .decode .ensures, p .replace-next-or-prev2 .ensures, q .replace-next-or-prev .ensures, v .release-link .ensures)
 
 pub unlink-spec : {M : Type 1} → statement M
 unlink-spec =
@@ -69,9 +94,11 @@ unlink-spec =
     new-requires
     is-null-requires
     null-requires
+    new-requires-2
     same-length
     returns
     next-requires
-    new-requires-2
+    new-requires-3
+    new-requires-4
     same-length-2
     returns-2)

@@ -6,12 +6,10 @@ use Rattle.replay.proofs.replay.Statement.{statement}
 use Rattle.replay.proofs.replay.Tie as tie
 
 abbrev Inv-loop : tie.InvT-loop
-Inv-loop input words₀ heads₀ tails₀ currents₀ prevs₀ nexts₀ marks₀ line₀ i₀ words heads tails currents prevs nexts marks line i =
-    Unit {0}
+Inv-loop input words₀ lists₀ marks₀ line₀ i₀ words lists marks line i = Unit {0}
 
 abbrev μ-loop : tie.MeasureT-loop
-μ-loop input words₀ heads₀ tails₀ currents₀ prevs₀ nexts₀ marks₀ line₀ i₀ words heads tails currents prevs nexts marks line i =
-    length input - i
+μ-loop input words₀ lists₀ marks₀ line₀ i₀ words lists marks line i = length input - i
 
 new-requires : tie.Need-new-requires Inv-loop μ-loop
 new-requires c κs = search needs

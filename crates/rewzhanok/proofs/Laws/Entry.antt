@@ -6,24 +6,21 @@ use native.Mathlib.Omega.{arith}
 use lib.Dec.{lit≤}
 use lib.ListN.{length, drop, length-append, length-map}
 use borrow.Author.Tests.{le-leb, lt-leb}
-use Rattle.words.specs.Names.{poolLimit, poolFits}
-use Rattle.audit.specs.Audit.{directoryLimit}
+use Rattle.words.specs.Names.{poolLimit, poolFits, directoryLimit}
 use Rattle.lines.specs.declared.line.Line.{Line}
 use Rattle.lines.specs.declared.line.Parsed.{Parsed}
 use Rattle.lines.specs.Lines.{lineOf, fresh}
 use Rattle.lines.specs.Inputs.{linesOf}
-use Rattle.lines.specs.Answers.{answerLine}
-use Rattle.desk.specs.declared.desk.Desk.{Desk}
-use Rattle.desk.specs.declared.desk.Reply.{Reply}
-use Rattle.desk.specs.Step.{freshDesk}
-use Rattle.history.specs.History.{History, start, tell}
-use Rattle.history.specs.Runs.{answerAll, tellAll}
+use Rattle.lines.specs.Answers.{reply, answerLine}
+use Rattle.lines.specs.declared.answer.Reply.{Reply}
+use Rattle.desk.specs.Step.{DeskStepped, deskStepped, freshDesk}
+use Rattle.history.specs.History.{History, start, plainStep}
+use Rattle.history.specs.Runs.{answerAll, plainAnswers}
 use Rattle.history.proofs.Laws.Runs.{answers-are}
-use Rattle.batch.specs.declared.Ran.{Ran}
-use Rattle.batch.specs.Step.{noMarks}
-use Rattle.pieces.specs.Pieces.{bytesOf}
-use Rattle.batch.specs.Run.{bytesOfAll, Running, running, runOf, finishOf, finished}
-use Rattle.batch.proofs.Laws.Whole.{whole-answered}
+use Rattle.batch_desk.specs.Step.{noMarks}
+use Rattle.stream.specs.Stream.{bytesOf}
+use Rattle.batch_desk.specs.Run.{bytesOfAll, Running, running, runOf, finishOf, finished}
+use Rattle.batch_desk.proofs.Laws.Whole.{whole-answered}
 use Rattle.rewzhanok.specs.Entry.{entered, mayRun, answersTo, entryOf}
 
 -- ---- as many bytes as eleven a line
@@ -33,26 +30,30 @@ unfolding bytesOfAll answerLine
 bytes-length [] = refl
 bytes-length (r ∷ rs) = rw (length-append (bytesOf r) (bytesOfAll rs)) (omega (arith, bytes-length rs))
 
-tell-length : (ps : List Parsed) (h : History) → length (tellAll 1024 h ps) ≡ length ps
-unfolding tellAll
-tell-length [] h = refl
-tell-length (p ∷ ps) h = ap suc (tell-length ps (tell 1024 h p .history))
+answers-counted : (ps : List Parsed) (h : History) → length (plainAnswers 1024 h ps) ≡ length ps
+unfolding plainAnswers
+answers-counted [] h = refl
+answers-counted (p ∷ ps) h = ap suc (answers-counted ps (plainStep 1024 h p .history))
 
 answers-length : (cs : List ℕ) → length (answersTo cs) ≡ 11 * length (linesOf cs)
 unfolding answersTo
 answers-length cs =
     let ps = map lineOf (linesOf cs) in
-    let b = bytes-length (tellAll 1024 (start 8) ps) in
-    let t = tell-length ps (start 8) in
+    let b = bytes-length (plainAnswers 1024 (start 8) ps) in
+    let t = answers-counted ps (start 8) in
     omega (arith, b, t, length-map (linesOf cs) lineOf)
 
 -- ---- the desk's answers are the history's
 
-told : (ps : List Parsed) → answerAll (freshDesk 1024 8) noMarks ps ≡ tellAll 1024 (start 8) ps
+answers-told : (ps : List Parsed) → answerAll (freshDesk 1024 8) noMarks ps ≡ plainAnswers 1024 (start 8) ps
 unfolding poolFits poolLimit directoryLimit noMarks
-told ps = answers-are 1024 refl 8 (lit≤ tt) noMarks refl ps
+answers-told ps = answers-are 1024 refl 8 (lit≤ tt) noMarks refl ps
 
 -- ---- the call, by what it comes to
+
+-- what a run starts with
+abbrev freshKept : DeskStepped
+freshKept = deskStepped (freshDesk 1024 8) (reply 0 0 0)
 
 pub too-long : (cs out : List ℕ) → 65536 < length cs → entered out 4294967295 ≡ entryOf cs out
 unfolding entryOf mayRun
@@ -63,26 +64,25 @@ unfolding entryOf mayRun
 no-room cs out h r = rw (le-leb (length cs) 65536 h, lt-leb (11 * length (linesOf cs)) (length out) r)
 
 module _ (cs out : List ℕ) (long : length cs ≤ 65536) (room : 11 * length (linesOf cs) ≤ length out) (w : Running)
-    (runs : w ≡ finished (runOf (freshDesk 1024 8) fresh cs out)) where
-  pub wrote-is : w .ran .wrote ≡ 11 * length (linesOf cs)
-  wrote-is = rw runs (omega (arith, whole-answered (freshDesk 1024 8) cs out room .wrote))
+    (runs : w ≡ finished (runOf freshKept fresh cs out)) where
+  pub wrote-is : w .wrote ≡ 11 * length (linesOf cs)
+  wrote-is = rw runs (omega (arith, whole-answered freshKept cs out room .wrote))
 
   out-is : w .out ≡ answersTo cs ++ drop (length (answersTo cs)) out
   unfolding answersTo
   out-is =
       ap (λ (x : Running). x .out) runs
-      ∙ whole-answered (freshDesk 1024 8) cs out room .out
-      ∙ rw (told (map lineOf (linesOf cs)), answers-length cs)
+      ∙ whole-answered freshKept cs out room .out
+      ∙ rw (answers-told (map lineOf (linesOf cs)), answers-length cs)
 
-  pub runs-entry : entered (w .out) (w .ran .wrote) ≡ entryOf cs out
+  pub runs-entry : entered (w .out) (w .wrote) ≡ entryOf cs out
   unfolding entryOf mayRun
   runs-entry =
       rw (le-leb (length cs) 65536 long, le-leb (11 * length (linesOf cs)) (length out) room, ← out-is)
       (ap (entered (w .out)) (wrote-is ∙ sym (answers-length cs)))
 
 -- the calls that make a whole run
-pub run-whole : (cs out : List ℕ) (d : Desk) (l : Line) (mid : List ℕ) (r : Ran) (end : List ℕ) (e : Ran) → d ≡ freshDesk 1024 8 → l ≡ fresh
-    → running mid r ≡ runOf d l cs out → running end e ≡ finishOf (r .desk) (r .line) mid (r .wrote)
-    → running end e ≡ finished (runOf (freshDesk 1024 8) fresh cs out)
+pub run-whole : (cs out : List ℕ) (d : DeskStepped) (l : Line) (mid : List ℕ) (d1 : DeskStepped) (l1 : Line) (w1 : ℕ) (x : Running) → d ≡ freshKept → l ≡ fresh
+    → running mid d1 l1 w1 ≡ runOf d l cs out → x ≡ finishOf d1 l1 mid w1 → x ≡ finished (runOf freshKept fresh cs out)
 unfolding finished
-run-whole cs out d l mid r end e hd hl hr he = he ∙ ap finished (hr ∙ rw (hd, hl))
+run-whole cs out d l mid d1 l1 w1 x hd hl hr he = he ∙ ap finished (hr ∙ rw (hd, hl))

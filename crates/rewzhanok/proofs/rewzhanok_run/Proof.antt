@@ -43,7 +43,7 @@ cast-result c =
     let long : length (s .args .commands .now) ≤ 65536 = omega (arith, c .before .before .before .before .before .before .before .before .before .before .before .before .before .before .before .if1 .left) in
     let room : 11 * length (linesOf (s .args .commands .now)) ≤ length (s .args .answers .now) = omega (arith, c .before .before .before .before .before .before .before .before .before .before .before .before .before .before .count-lines .ensures, c .before .before .before .before .before .before .before .before .before .before .before .before .before .if2 .left) in
     let whole =
-    run-whole (s .args .commands .now) (s .args .answers .now) _ _ _ _ _ _ (c .before .before .before .before .before .before .before .before .before .before .before .before .fresh .ensures) (c .before .before .before .before .before .before .before .before .before .before .before .new .ensures) (r .ensures) (f .ensures) in
+    run-whole (s .args .commands .now) (s .args .answers .now) _ _ _ _ _ _ _ (c .before .before .before .before .before .before .before .before .before .before .before .before .fresh .ensures) (c .before .before .before .before .before .before .before .before .before .before .before .new .ensures) (r .ensures) (f .ensures) in
     omega (arith, long, wrote-is (s .args .commands .now) (s .args .answers .now) long room _ whole, few (s .args .commands .now))
 
 same-length : tie.Need-same-length
@@ -57,7 +57,7 @@ returns-3 c =
     let long : length (s .args .commands .now) ≤ 65536 = omega (arith, c .before .before .before .before .before .before .before .before .before .before .before .before .before .before .before .if1 .left) in
     let room : 11 * length (linesOf (s .args .commands .now)) ≤ length (s .args .answers .now) = omega (arith, c .before .before .before .before .before .before .before .before .before .before .before .before .before .before .count-lines .ensures, c .before .before .before .before .before .before .before .before .before .before .before .before .before .if2 .left) in
     let whole =
-    run-whole (s .args .commands .now) (s .args .answers .now) _ _ _ _ _ _ (c .before .before .before .before .before .before .before .before .before .before .before .before .fresh .ensures) (c .before .before .before .before .before .before .before .before .before .before .before .new .ensures) (r .ensures) (f .ensures) in
+    run-whole (s .args .commands .now) (s .args .answers .now) _ _ _ _ _ _ _ (c .before .before .before .before .before .before .before .before .before .before .before .before .fresh .ensures) (c .before .before .before .before .before .before .before .before .before .before .before .new .ensures) (r .ensures) (f .ensures) in
     runs-entry (s .args .commands .now) (s .args .answers .now) long room _ whole
 
 pub rewzhanok-run-spec : {M : Type 1} → statement M

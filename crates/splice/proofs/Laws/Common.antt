@@ -11,22 +11,23 @@ use Rattle.words.specs.Pool.{Outcome, outcome}
 use Rattle.words.specs.Listing.{All, Off, Apart, Listing}
 use Rattle.words.proofs.Laws.Nodes.{all-map, all-both, all-append}
 use Rattle.words.proofs.Laws.Outside.{Outside, marks-agree}
-use Rattle.standing.specs.declared.answer.Answer.{Answer}
-use Rattle.standing.specs.declared.ends.Ends.{Ends}
-use Rattle.standing.specs.Ends.{isEmpty}
-use Rattle.standing.proofs.Laws.Holds.{name-null}
-use Rattle.cursor.specs.declared.cursor.Cursor.{Cursor}
-use Rattle.cursor.specs.declared.cursor.Parted.{Parted}
-use Rattle.cursor.specs.Cursor.{parted}
-use Rattle.cursor.specs.Plain.{Place, Sound}
+use Rattle.answers.specs.declared.Answer.{Answer}
+use Rattle.ends.specs.declared.Ends.{Ends}
+use Rattle.ends.specs.Ends.{isEmpty}
+use Rattle.ends.proofs.Laws.Holds.{name-null}
+use Rattle.cursor.specs.declared.Cursor.{Cursor}
+use Rattle.cursor.specs.declared.EditedTwo.{EditedTwo}
+use Rattle.cursor.specs.Cursor.{editedTwo}
+use Rattle.cursor.specs.Plain.{Place, nodes, Sound}
+use Rattle.cursor.proofs.Laws.Alone.{same-alone}
 use Rattle.splice.specs.Plain.{PlainTwo, two, DoesTwo}
 
 -- a call that leaves everything as it is
 pub same-does : (ws : List ℕ) (e : Ends) (c : Cursor) (z : Place) (o : Ends) (ys : List ℕ) → Sound ws e c z
-    → Listing bitXor ws (o .head .0) (o .tail .0) ys → (r : Outcome Parted) (d : PlainTwo) (a : Answer)
-    → r ≡ outcome ws (parted a e c o) → d ≡ two a z ys → DoesTwo ws z ys r d
+    → Listing bitXor ws (o .head .0) (o .tail .0) ys → (r : Outcome EditedTwo) (d : PlainTwo) (a : Answer)
+    → r ≡ outcome ws (editedTwo a e c o) → d ≡ two a z ys → DoesTwo ws z ys r d
 same-does ws e c z o ys s l r d a p q =
-    rw (p, q) (record { answer = refl; sound = s; other = l; marks = λ j. refl; others = λ h t vs k a' b. k; kept = λ j a' b. refl; long = refl })
+    rw (p, q) (record { answer = refl; sound = s; other = l; marks = λ j. refl; alone = same-alone ws (nodes z ++ ys) (nodes z ++ ys) })
 
 -- what shares no node with either of two sequences shares none with both
 pub apart-both : (vs xs ys : List ℕ) → Apart vs xs → Apart vs ys → Apart vs (xs ++ ys)

@@ -5,11 +5,11 @@ use Prim.Native.Nat.{ℕ}
 use lib.Dec.{lit≤}
 use Rattle.words.specs.Changes.{AtMostFour}
 use Rattle.words.proofs.Laws.Pool.{few-unless}
-use Rattle.words.proofs.Laws.Between.{splice-changes}
-use Rattle.standing.specs.declared.ends.Ends.{Ends}
-use Rattle.standing.specs.Answer.{isRefused}
-use Rattle.standing.specs.Ends.{isEmpty}
-use Rattle.cursor.specs.declared.cursor.Cursor.{Cursor}
+use Rattle.links.proofs.Laws.Between.{splice-changes}
+use Rattle.ends.specs.declared.Ends.{Ends}
+use Rattle.answers.specs.Answer.{isRefused}
+use Rattle.ends.specs.Ends.{isEmpty}
+use Rattle.cursor.specs.declared.Cursor.{Cursor}
 use Rattle.cursor.specs.Cursor.{pairTest}
 use Rattle.splice.specs.Splices.{splicedAfter, splicedBefore, spliceAfter, spliceBefore}
 

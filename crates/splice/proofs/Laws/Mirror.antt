@@ -2,27 +2,28 @@
 use mathlib.Core.Path.{_≡_}
 use mathlib.Core.Logic.{_≢_}
 use mathlib.Core.Bool.{Bool, true, false, cond}
-use mathlib.Core.List.{List, [], _∷_, reverse, reverse-append, reverse-reverse, append-nil}
+use mathlib.Core.List.{List, [], _∷_, _++_, reverse, reverse-append, reverse-reverse, append-nil}
 use Prim.Native.Nat.{ℕ}
 use lib.Bits.{bitXor}
 use lib.Dec.{eqb}
 use lib.ListN.{length}
 use Rattle.words.specs.Names.{isNull, poolFits}
 use Rattle.words.specs.Pool.{Outcome, outcome}
-use Rattle.words.specs.Listing.{Apart, Off, Listing}
-use Rattle.words.proofs.Laws.Nodes.{all-map, all-reverse}
+use Rattle.words.specs.Listing.{All, Apart, Off, Listing}
+use Rattle.words.proofs.Laws.Nodes.{all-map, all-append, all-left, all-right, all-reverse}
 use Rattle.words.proofs.Laws.Chain.{back-last, lastOf}
-use Rattle.words.proofs.Laws.Between.{splice-mirror}
-use Rattle.words.proofs.Laws.Listing.{xor-listing-reverse}
-use Rattle.standing.specs.declared.answer.Answer.the-variants.{Done}
-use Rattle.standing.specs.declared.ends.Ends.{Ends}
-use Rattle.standing.specs.Ends.{endsOf, emptyEnds, isEmpty, turned}
-use Rattle.standing.proofs.Laws.Holds.{name-null}
-use Rattle.cursor.specs.declared.cursor.Cursor.{Cursor}
-use Rattle.cursor.specs.declared.cursor.Parted.{Parted}
-use Rattle.cursor.specs.Cursor.{cursorOf, nullCursor, turnedCursor, parted}
+use Rattle.links.proofs.Laws.Between.{splice-mirror}
+use Rattle.links.proofs.Laws.XorListing.{xor-listing-reverse}
+use Rattle.answers.specs.declared.Answer.the-variants.{Done}
+use Rattle.ends.specs.declared.Ends.{Ends}
+use Rattle.ends.specs.Ends.{endsOf, emptyEnds, isEmpty, turned}
+use Rattle.ends.proofs.Laws.Holds.{name-null}
+use Rattle.cursor.specs.declared.Cursor.{Cursor}
+use Rattle.cursor.specs.declared.EditedTwo.{EditedTwo}
+use Rattle.cursor.specs.Cursor.{cursorOf, nullCursor, turnedCursor, editedTwo}
 use Rattle.cursor.specs.Plain.{Place, at, atNull, nodes, mirror, Sound}
-use Rattle.cursor.proofs.Laws.Mirror.{mirror-nodes, sound-mirror}
+use Rattle.cursor.proofs.Laws.Alone.{more-alone}
+use Rattle.cursor.proofs.Laws.Mirror.{mirror-nodes, mirror-mirror, all-mirror, sound-mirror}
 use Rattle.cursor.proofs.Laws.Sound.{sound-pair}
 use Rattle.splice.specs.Splices.{splicedAfter, splicedBefore, spliceAfter, spliceBefore}
 use Rattle.splice.specs.Plain.{PlainTwo, two, plainSpliceAfter, plainSpliceBefore, DoesTwo}
@@ -30,9 +31,9 @@ use Rattle.splice.proofs.Laws.Common.{same-does, empty-is, some-is}
 use Rattle.splice.proofs.Laws.Splice.{splice-after-does}
 
 -- what a call leaves, seen from the other side
-abbrev pub turnedParted : Outcome Parted → Outcome Parted
-turnedParted o =
-    outcome (o .words) (parted (o .answer .answer) (turned (o .answer .ends)) (turnedCursor (o .answer .cursor)) (turned (o .answer .other)))
+abbrev pub turnedEditedTwo : Outcome EditedTwo → Outcome EditedTwo
+turnedEditedTwo o =
+    outcome (o .words) (editedTwo (o .result .answer) (turned (o .result .ends)) (turnedCursor (o .result .cursor)) (turned (o .result .other)))
 
 abbrev pub turnedTwo : PlainTwo → PlainTwo
 turnedTwo d = two (d .answer) (mirror (d .place)) (reverse (d .other))
@@ -40,17 +41,17 @@ turnedTwo d = two (d .answer) (mirror (d .place)) (reverse (d .other))
 -- ---- the steps, for any words, ends and cursor
 
 pub spliced-mirror : (ws : List ℕ) (e : Ends) (c : Cursor) (o : Ends)
-    → splicedBefore ws e c o ≡ turnedParted (splicedAfter ws (turned e) (turnedCursor c) (turned o))
+    → splicedBefore ws e c o ≡ turnedEditedTwo (splicedAfter ws (turned e) (turnedCursor c) (turned o))
 unfolding splicedBefore splicedAfter
 spliced-mirror ws e c o = go (isNull (c .current)) (splice-mirror ws (o .head .0) (o .tail .0) (c .prev .0) (c .current .0))
   where
     go : (b : Bool) {w w' : List ℕ} → w ≡ w'
-        → outcome w (cond b (parted Done (endsOf (cond (eqb (e .head .0) (c .current .0)) (o .head) (e .head)) (o .tail))
+        → outcome w (cond b (editedTwo Done (endsOf (cond (eqb (e .head .0) (c .current .0)) (o .head) (e .head)) (o .tail))
         (nullCursor (endsOf (cond (eqb (e .head .0) (c .current .0)) (o .head) (e .head)) (o .tail))) emptyEnds)
-        (parted Done (endsOf (cond (eqb (e .head .0) (c .current .0)) (o .head) (e .head)) (e .tail)) (cursorOf (c .current) (o .tail) (c .next)) emptyEnds))
-        ≡ turnedParted (outcome w' (cond b (parted Done (endsOf (o .tail) (cond (eqb (e .head .0) (c .current .0)) (o .head) (e .head)))
+        (editedTwo Done (endsOf (cond (eqb (e .head .0) (c .current .0)) (o .head) (e .head)) (e .tail)) (cursorOf (c .current) (o .tail) (c .next)) emptyEnds))
+        ≡ turnedEditedTwo (outcome w' (cond b (editedTwo Done (endsOf (o .tail) (cond (eqb (e .head .0) (c .current .0)) (o .head) (e .head)))
         (nullCursor (endsOf (o .tail) (cond (eqb (e .head .0) (c .current .0)) (o .head) (e .head)))) emptyEnds)
-        (parted Done (endsOf (e .tail) (cond (eqb (e .head .0) (c .current .0)) (o .head) (e .head))) (cursorOf (c .current) (c .next) (o .tail)) emptyEnds)))
+        (editedTwo Done (endsOf (e .tail) (cond (eqb (e .head .0) (c .current .0)) (o .head) (e .head))) (cursorOf (c .current) (c .next) (o .tail)) emptyEnds)))
     go true p = rw p
     go false p = rw p
 
@@ -59,17 +60,26 @@ spliced-mirror ws e c o = go (isNull (c .current)) (splice-mirror ws (o .head .0
 pub apart-turned : (vs xs : List ℕ) → Apart vs xs → Apart vs (reverse xs)
 apart-turned vs xs a = all-map (λ v. Off v xs) (λ v. Off v (reverse xs)) (λ v h. all-reverse (λ x. x ≢ v) xs h) vs a
 
-pub does-mirror : (ws : List ℕ) (z : Place) (ys : List ℕ) (o : Outcome Parted) (d : PlainTwo) → DoesTwo ws (mirror z) (reverse ys) o d
-    → DoesTwo ws z ys (turnedParted o) (turnedTwo d)
+-- what holds of every node of two sequences holds of those of the reverses, and back
+all-turned : (P : ℕ → Type 0) (z : Place) (ys : List ℕ) → All P (nodes z ++ ys) → All P (nodes (mirror z) ++ reverse ys)
+all-turned P z ys a =
+    all-append P (nodes (mirror z)) (reverse ys) (all-mirror P z (all-left P (nodes z) ys a)) (all-reverse P ys (all-right P (nodes z) ys a))
+
+all-unturned : (P : ℕ → Type 0) (z : Place) (ys : List ℕ) → All P (nodes (mirror z) ++ reverse ys) → All P (nodes z ++ ys)
+all-unturned P z ys a =
+    rw (mirror-mirror z, reverse-reverse ys) at (all-turned P (mirror z) (reverse ys) a)
+
+pub does-mirror : (ws : List ℕ) (z : Place) (ys : List ℕ) (o : Outcome EditedTwo) (d : PlainTwo) → DoesTwo ws (mirror z) (reverse ys) o d
+    → DoesTwo ws z ys (turnedEditedTwo o) (turnedTwo d)
 does-mirror ws z ys o d k =
     record {
       answer = k .answer;
-      sound = sound-mirror (o .words) (o .answer .ends) (o .answer .cursor) (d .place) (k .sound);
-      other = xor-listing-reverse (o .words) (o .answer .other .head .0) (o .answer .other .tail .0) (d .other) (k .other);
+      sound = sound-mirror (o .words) (o .result .ends) (o .result .cursor) (d .place) (k .sound);
+      other = xor-listing-reverse (o .words) (o .result .other .head .0) (o .result .other .tail .0) (d .other) (k .other);
       marks = k .marks;
-      others = λ h t vs l a b. k .others h t vs l (rw (mirror-nodes z) (apart-turned vs (nodes z) a)) (apart-turned vs ys b);
-      kept = λ j a b. k .kept j (rw (mirror-nodes z) (all-reverse (λ x. x ≢ j) (nodes z) a)) (all-reverse (λ x. x ≢ j) ys b);
-      long = k .long;
+      alone =
+          more-alone ws (o .words) (nodes (mirror z) ++ reverse ys) (nodes (d .place) ++ d .other) (nodes z ++ ys)
+          (nodes (mirror (d .place)) ++ reverse (d .other)) (λ P. all-turned P z ys) (λ P. all-unturned P (d .place) (d .other)) (k .alone);
     }
 
 -- ---- the call
@@ -85,7 +95,7 @@ module _ (ws : List ℕ) (e : Ends) (c : Cursor) (o : Ends) (f : poolFits (lengt
   unfolding spliceBefore
   before-some z y ys s l = rw (sound-pair ws e c z o (y ∷ ys) f s l, some-is ws o y ys l)
 
-  before-none : (z : Place) → Sound ws e c z → Listing bitXor ws (o .head .0) (o .tail .0) [] → spliceBefore ws e c o ≡ outcome ws (parted Done e c o)
+  before-none : (z : Place) → Sound ws e c z → Listing bitXor ws (o .head .0) (o .tail .0) [] → spliceBefore ws e c o ≡ outcome ws (editedTwo Done e c o)
   unfolding spliceBefore
   before-none z s l = rw (sound-pair ws e c z o [] f s l, empty-is ws o l)
 

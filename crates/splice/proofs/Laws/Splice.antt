@@ -1,6 +1,5 @@
 -- Splice after does its plain edit. Assumes nothing.
 use mathlib.Core.Path.{_≡_, refl, sym, ap, _∙_}
-use mathlib.Core.Logic.{_≢_}
 use mathlib.Core.Bool.{true, false, cond}
 use mathlib.Core.List.{List, [], _∷_, _++_, append-assoc}
 use Prim.Native.Nat.{ℕ}
@@ -9,26 +8,28 @@ use lib.Dec.{eqb}
 use lib.ListN.{length, getD}
 use Rattle.words.specs.Names.{name, isNull, isLinked, poolFits}
 use Rattle.words.specs.Pool.{outcome}
-use Rattle.words.specs.LinkOps.{spliceBetween}
+use Rattle.links.specs.XorOps.{spliceBetween}
 use Rattle.words.specs.Listing.{All, Apart, front, back, Listing}
 use Rattle.words.proofs.Laws.Nodes.{all-append, all-left, all-right}
 use Rattle.words.proofs.Laws.Chain.{front-append, back-append}
 use Rattle.words.proofs.Laws.Listing.{listing-as}
-use Rattle.words.proofs.Laws.Outside.{Outside, covered-null, covered-here, covered-more, covered-left, covered-right, covered-front, covered-back, changes-outside, listing-outside, listing-linked}
-use Rattle.words.proofs.Laws.Between.{spliced, splice-changes}
-use Rattle.words.proofs.Laws.Cuts.{sides}
-use Rattle.standing.specs.declared.answer.Answer.the-variants.{Done}
-use Rattle.standing.specs.declared.ends.Ends.{Ends}
-use Rattle.standing.specs.Ends.{endsOf, emptyEnds}
-use Rattle.standing.proofs.Laws.Holds.{name-null}
-use Rattle.cursor.specs.declared.cursor.Cursor.{Cursor}
-use Rattle.cursor.specs.Cursor.{cursorOf, nullCursor, parted}
+use Rattle.words.proofs.Laws.Outside.{Outside, covered-null, covered-here, covered-more, covered-left, covered-right, covered-front, covered-back, changes-outside}
+use Rattle.links.proofs.Laws.XorListing.{xor-listing-linked}
+use Rattle.links.proofs.Laws.Between.{spliced, splice-changes}
+use Rattle.links.proofs.Laws.Cuts.{sides}
+use Rattle.answers.specs.declared.Answer.the-variants.{Done}
+use Rattle.ends.specs.declared.Ends.{Ends}
+use Rattle.ends.specs.Ends.{endsOf, emptyEnds}
+use Rattle.ends.proofs.Laws.Holds.{name-null}
+use Rattle.cursor.specs.declared.Cursor.{Cursor}
+use Rattle.cursor.specs.Cursor.{cursorOf, nullCursor, editedTwo}
 use Rattle.cursor.specs.Plain.{Place, at, atNull, nodes, Sound}
+use Rattle.cursor.proofs.Laws.Alone.{outside-alone}
 use Rattle.cursor.proofs.Laws.Sound.{sound-pair}
 use Rattle.cursor.proofs.Laws.Swap.{tail-swap, tail-null}
 use Rattle.splice.specs.Splices.{splicedAfter, spliceAfter}
 use Rattle.splice.specs.Plain.{plainSpliceAfter, DoesTwo}
-use Rattle.splice.proofs.Laws.Common.{same-does, apart-both, marks-stay, empty-is, some-is}
+use Rattle.splice.proofs.Laws.Common.{same-does, marks-stay, empty-is, some-is}
 
 -- ---- the steps, for a list that is not empty
 
@@ -41,12 +42,12 @@ module _ (ws : List ℕ) (e : Ends) (c : Cursor) (o : Ends) (y : ℕ) (ys : List
   module _ (L : List ℕ) (x : ℕ) (R : List ℕ) (s : Sound ws e c (at L x R)) where
     node-is : splicedAfter ws e c o
         ≡ outcome (spliceBetween ws (o .head .0) (o .tail .0) (c .current .0) (c .next .0))
-        (parted Done (endsOf (e .head) (cond (eqb (e .tail .0) (c .current .0)) (o .tail) (e .tail))) (cursorOf (c .current) (c .prev) (o .head)) emptyEnds)
+        (editedTwo Done (endsOf (e .head) (cond (eqb (e .tail .0) (c .current .0)) (o .tail) (e .tail))) (cursorOf (c .current) (c .prev) (o .head)) emptyEnds)
     unfolding splicedAfter
     node-is = let n : isNull (c .current) ≡ false = rw (s .place .0) (name-null x) in rw n
 
     node-sound : Apart (L ++ x ∷ R) (y ∷ ys)
-        → Sound (splicedAfter ws e c o .words) (splicedAfter ws e c o .answer .ends) (splicedAfter ws e c o .answer .cursor) (at L x ((y ∷ ys) ++ R))
+        → Sound (splicedAfter ws e c o .words) (splicedAfter ws e c o .result .ends) (splicedAfter ws e c o .result .cursor) (at L x ((y ∷ ys) ++ R))
     node-sound a =
         let h = e .head .0 in
         let t = e .tail .0 in
@@ -71,13 +72,13 @@ module _ (ws : List ℕ) (e : Ends) (c : Cursor) (o : Ends) (y : ℕ) (ys : List
   module _ (xs : List ℕ) (s : Sound ws e c (atNull xs)) where
     null-is : splicedAfter ws e c o
         ≡ outcome (spliceBetween ws (o .head .0) (o .tail .0) (c .current .0) (c .next .0))
-        (parted Done (endsOf (o .head) (cond (eqb (e .tail .0) (c .current .0)) (o .tail) (e .tail)))
+        (editedTwo Done (endsOf (o .head) (cond (eqb (e .tail .0) (c .current .0)) (o .tail) (e .tail)))
         (nullCursor (endsOf (o .head) (cond (eqb (e .tail .0) (c .current .0)) (o .tail) (e .tail)))) emptyEnds)
     unfolding splicedAfter
     null-is = let n : isNull (c .current) ≡ true = rw (s .place .0) in rw n
 
     null-sound : Apart xs (y ∷ ys)
-        → Sound (splicedAfter ws e c o .words) (splicedAfter ws e c o .answer .ends) (splicedAfter ws e c o .answer .cursor) (atNull ((y ∷ ys) ++ xs))
+        → Sound (splicedAfter ws e c o .words) (splicedAfter ws e c o .result .ends) (splicedAfter ws e c o .result .cursor) (atNull ((y ∷ ys) ++ xs))
     null-sound a =
         let k = spliced ws (e .head .0) (e .tail .0) (o .head .0) (o .tail .0) [] xs y ys (s .listing) l a in
         let words : spliceBetween ws (o .head .0) (o .tail .0) 0 (front xs 0) ≡ spliceBetween ws (o .head .0) (o .tail .0) (c .current .0) (c .next .0) =
@@ -131,7 +132,7 @@ all-joined P (at L x R) ys h =
 all-joined P (atNull xs) ys h = all-append P xs ys (all-right P ys xs h) (all-left P ys xs h)
 
 module _ (ws : List ℕ) (e : Ends) (c : Cursor) (o : Ends) (f : poolFits (length ws) ≡ true) where
-  call-empty : (z : Place) → Sound ws e c z → Listing bitXor ws (o .head .0) (o .tail .0) [] → spliceAfter ws e c o ≡ outcome ws (parted Done e c o)
+  call-empty : (z : Place) → Sound ws e c z → Listing bitXor ws (o .head .0) (o .tail .0) [] → spliceAfter ws e c o ≡ outcome ws (editedTwo Done e c o)
   unfolding spliceAfter
   call-empty z s l = rw (sound-pair ws e c z o [] f s l, empty-is ws o l)
 
@@ -141,11 +142,11 @@ module _ (ws : List ℕ) (e : Ends) (c : Cursor) (o : Ends) (f : poolFits (lengt
   call-some z y ys s l = rw (sound-pair ws e c z o (y ∷ ys) f s l, some-is ws o y ys l)
 
   sound-joined : (z : Place) (y : ℕ) (ys : List ℕ) → Sound ws e c z → Listing bitXor ws (o .head .0) (o .tail .0) (y ∷ ys) → Apart (nodes z) (y ∷ ys)
-      → Sound (splicedAfter ws e c o .words) (splicedAfter ws e c o .answer .ends) (splicedAfter ws e c o .answer .cursor) (plainSpliceAfter (y ∷ ys) z .place)
+      → Sound (splicedAfter ws e c o .words) (splicedAfter ws e c o .result .ends) (splicedAfter ws e c o .result .cursor) (plainSpliceAfter (y ∷ ys) z .place)
   sound-joined (at L x R) y ys s l a = node-sound ws e c o y ys l L x R s a
   sound-joined (atNull xs) y ys s l a = null-sound ws e c o y ys l xs s a
 
-  done : (z : Place) → Sound ws e c z → (splicedAfter ws e c o .answer .answer ≡ Done) × (splicedAfter ws e c o .answer .other ≡ emptyEnds)
+  done : (z : Place) → Sound ws e c z → (splicedAfter ws e c o .result .answer ≡ Done) × (splicedAfter ws e c o .result .other ≡ emptyEnds)
   unfolding splicedAfter
   done (at L x R) s = let n : isNull (c .current) ≡ false = rw (s .place .0) (name-null x) in rw n (refl, refl)
   done (atNull xs) s = let n : isNull (c .current) ≡ true = rw (s .place .0) in rw n (refl, refl)
@@ -163,15 +164,13 @@ module _ (ws : List ℕ) (e : Ends) (c : Cursor) (o : Ends) (f : poolFits (lengt
       let out = outside ws e c o z (y ∷ ys) s l in
       let d = done z s in
       let p = plain-is z (y ∷ ys) in
-      let old = all-append (λ x. isLinked (getD ws x 0) ≡ true) (nodes z) (y ∷ ys) (listing-linked ws _ _ (nodes z) (s .listing)) (listing-linked ws _ _ (y ∷ ys) l) in
-      let new = all-joined (λ x. isLinked (getD (splicedAfter ws e c o .words) x 0) ≡ true) z (y ∷ ys) (listing-linked _ _ _ _ (k .listing)) in
+      let old = all-append (λ x. isLinked (getD ws x 0) ≡ true) (nodes z) (y ∷ ys) (xor-listing-linked ws _ _ (nodes z) (s .listing)) (xor-listing-linked ws _ _ (y ∷ ys) l) in
+      let new = all-joined (λ x. isLinked (getD (splicedAfter ws e c o .words) x 0) ≡ true) z (y ∷ ys) (xor-listing-linked _ _ _ _ (k .listing)) in
       rw (call-some z y ys s l)
       (record {
         answer = d .0 ∙ sym (p .0);
         sound = k;
         other = rw (d .1, p .1) (record { distinct = tt; ranged = tt; first = refl; last = refl; chain = tt });
         marks = marks-stay ws (splicedAfter ws e c o .words) (nodes z ++ (y ∷ ys)) out old new;
-        others = λ h t vs kv a1 a2. listing-outside bitXor (nodes z ++ (y ∷ ys)) ws _ out h t vs (apart-both vs (nodes z) (y ∷ ys) a1 a2) kv;
-        kept = λ j a1 a2. out .same j (all-append (λ x. x ≢ j) (nodes z) (y ∷ ys) a1 a2);
-        long = out .long;
+        alone = outside-alone ws _ (nodes z ++ (y ∷ ys)) _ out;
       })

@@ -13,12 +13,17 @@ is-refused-requires c κs = search needs
 is-empty-requires : tie.Need-is-empty-requires
 is-empty-requires c κs = search needs
 
+new-requires : tie.Need-new-requires
+new-requires c κs = search needs
+
 same-length : tie.Need-same-length
 same-length c = search needs
 
 returns : tie.Need-returns
 unfolding spliceAfter
-returns c = rw (← (c .before .before .before .pair-test .ensures), ← (c .before .before .is-refused .ensures), ← (c .before .is-empty .ensures), c .if1 .taken)
+returns c =
+    let k = c .before .before .before in
+    rw (c .new .ensures, ← (k .before .pair-test .ensures), ← (k .is-refused .ensures), ← (c .before .before .is-empty .ensures), c .before .if1 .taken)
 
 join-after-requires : tie.Need-join-after-requires
 join-after-requires c κs = search needs
@@ -28,7 +33,9 @@ same-length-2 c = search needs
 
 returns-2 : tie.Need-returns-2
 unfolding spliceAfter
-returns-2 c = rw (← (c .before .before .before .before .before .before .before .pair-test .ensures), ← (c .before .before .before .before .before .before .is-refused .ensures), ← (c .before .before .before .before .before .is-empty .ensures), c .before .before .before .before .if1 .left) (c .before .before .join-after .ensures)
+returns-2 c =
+    let k = c .before .before .before .before in
+    rw (← (k .before .before .before .pair-test .ensures), ← (k .before .before .is-refused .ensures), ← (k .before .is-empty .ensures), k .if1 .left) (c .before .before .join-after .ensures)
 
 pub splice-after-spec : {M : Type 1} → statement M
 splice-after-spec =
@@ -37,6 +44,7 @@ splice-after-spec =
     pair-test-requires
     is-refused-requires
     is-empty-requires
+    new-requires
     same-length
     returns
     join-after-requires

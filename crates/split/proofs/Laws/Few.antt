@@ -5,10 +5,10 @@ use lib.Dec.{lit≤}
 use Rattle.words.specs.Names.{isNull}
 use Rattle.words.specs.Changes.{AtMostFour}
 use Rattle.words.proofs.Laws.Pool.{changes-then, few-unless}
-use Rattle.words.proofs.Laws.Between.{changes-trade, changes-set}
-use Rattle.standing.specs.declared.ends.Ends.{Ends}
-use Rattle.standing.specs.Answer.{isRefused}
-use Rattle.cursor.specs.declared.cursor.Cursor.{Cursor}
+use Rattle.links.proofs.Laws.Between.{changes-trade, changes-set}
+use Rattle.ends.specs.declared.Ends.{Ends}
+use Rattle.answers.specs.Answer.{isRefused}
+use Rattle.cursor.specs.declared.Cursor.{Cursor}
 use Rattle.cursor.specs.Cursor.{splitTest}
 use Rattle.split.specs.Splits.{cutAfter, cutBefore, splitAfter, splitBefore}
 

@@ -5,17 +5,17 @@ use mathlib.Core.List.{List}
 use Prim.Native.Nat.{ℕ}
 use Rattle.words.specs.Names.{isNull}
 use Rattle.words.specs.Pool.{Outcome, outcome}
-use Rattle.standing.specs.declared.ends.Ends.{Ends}
-use Rattle.standing.specs.Answer.{isRefused}
-use Rattle.cursor.specs.declared.cursor.Cursor.{Cursor}
-use Rattle.cursor.specs.declared.cursor.Parted.{Parted}
+use Rattle.ends.specs.declared.Ends.{Ends}
+use Rattle.answers.specs.Answer.{isRefused}
+use Rattle.cursor.specs.declared.Cursor.{Cursor}
+use Rattle.cursor.specs.declared.EditedTwo.{EditedTwo}
 use Rattle.cursor.specs.Cursor.{splitTest}
 use Rattle.split.specs.Splits.{cutAfter, cutBefore, cutAtNull, splitAfter, splitBefore}
 use Rattle.splice.proofs.Laws.Refused.{UnchangedTwo, unless}
 
 -- the steps are never refused
-cut-done : (b : Bool) (ws : List ℕ) (x : Parted) (r : Outcome Parted) → isRefused (x .answer) ≡ false → isRefused (r .answer .answer) ≡ false
-    → isRefused (cond b (outcome ws x) r .answer .answer) ≡ false
+cut-done : (b : Bool) (ws : List ℕ) (x : EditedTwo) (r : Outcome EditedTwo) → isRefused (x .answer) ≡ false → isRefused (r .result .answer) ≡ false
+    → isRefused (cond b (outcome ws x) r .result .answer) ≡ false
 cut-done true ws x r h k = h
 cut-done false ws x r h k = k
 

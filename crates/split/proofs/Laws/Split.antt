@@ -1,7 +1,7 @@
 -- Split after does its plain edit. Assumes nothing.
 use mathlib.Core.Path.{_≡_, refl, sym, _∙_}
 use mathlib.Core.Bool.{true, false, cond}
-use mathlib.Core.List.{List, [], _∷_, _++_, append-assoc}
+use mathlib.Core.List.{List, [], _∷_, _++_, append-assoc, append-nil}
 use Prim.Native.Nat.{ℕ}
 use lib.Bits.{bitXor}
 use lib.ListN.{length, getD}
@@ -12,16 +12,18 @@ use Rattle.words.specs.Listing.{All, front, back, Listing}
 use Rattle.words.proofs.Laws.Nodes.{all-append}
 use Rattle.words.proofs.Laws.Chain.{front-append, back-append}
 use Rattle.words.proofs.Laws.Listing.{listing-as}
-use Rattle.words.proofs.Laws.Outside.{Outside, covered-here, covered-more, covered-right, covered-front, changes-outside, listing-outside, listing-linked}
-use Rattle.words.proofs.Laws.Cuts.{cutOff, cut-stays, cut-goes, cut-changes}
-use Rattle.standing.specs.declared.answer.Refusal.the-variants.{NotEmpty}
-use Rattle.standing.specs.declared.answer.Answer.the-variants.{Done, Refused}
-use Rattle.standing.specs.declared.ends.Ends.{Ends}
-use Rattle.standing.specs.Ends.{emptyEnds}
-use Rattle.standing.proofs.Laws.Holds.{name-null}
-use Rattle.cursor.specs.declared.cursor.Cursor.{Cursor}
-use Rattle.cursor.specs.Cursor.{nullCursor, parted, splitTest}
+use Rattle.words.proofs.Laws.Outside.{Outside, covered-here, covered-more, covered-right, covered-front, changes-outside}
+use Rattle.links.proofs.Laws.XorListing.{xor-listing-linked}
+use Rattle.links.proofs.Laws.Cuts.{cutOff, cut-stays, cut-goes, cut-changes}
+use Rattle.answers.specs.declared.Refusal.the-variants.{NotEmpty}
+use Rattle.answers.specs.declared.Answer.the-variants.{Done, Refused}
+use Rattle.ends.specs.declared.Ends.{Ends}
+use Rattle.ends.specs.Ends.{emptyEnds}
+use Rattle.ends.proofs.Laws.Holds.{name-null}
+use Rattle.cursor.specs.declared.Cursor.{Cursor}
+use Rattle.cursor.specs.Cursor.{nullCursor, editedTwo, splitTest}
 use Rattle.cursor.specs.Plain.{Place, at, atNull, Sound}
+use Rattle.cursor.proofs.Laws.Alone.{same-alone, outside-alone}
 use Rattle.cursor.proofs.Laws.Sound.{sound-pair}
 use Rattle.split.specs.Splits.{cutAfter, cutAtNull, splitAfter}
 use Rattle.split.specs.Plain.{plainSplitAfter}
@@ -40,7 +42,7 @@ module _ (ws : List ℕ) (e : Ends) (c : Cursor) (L : List ℕ) (x : ℕ) (R : L
   unfolding cutAfter cutOff
   cut-words = rw (s .place .0, s .place .1, s .place .2)
 
-  cut-sound : Sound (cutAfter ws e c .words) (cutAfter ws e c .answer .ends) (cutAfter ws e c .answer .cursor) (at L x [])
+  cut-sound : Sound (cutAfter ws e c .words) (cutAfter ws e c .result .ends) (cutAfter ws e c .result .cursor) (at L x [])
   unfolding cutAfter
   cut-sound =
       record {
@@ -50,7 +52,7 @@ module _ (ws : List ℕ) (e : Ends) (c : Cursor) (L : List ℕ) (x : ℕ) (R : L
         place = (s .place .0, s .place .1, refl);
       }
 
-  cut-other : Listing bitXor (cutAfter ws e c .words) (cutAfter ws e c .answer .other .head .0) (cutAfter ws e c .answer .other .tail .0) R
+  cut-other : Listing bitXor (cutAfter ws e c .words) (cutAfter ws e c .result .other .head .0) (cutAfter ws e c .result .other .tail .0) R
   unfolding cutAfter
   cut-other =
       listing-as bitXor _ _ _ _ _ _ _ _ (sym cut-words) (sym (s .place .2))
@@ -65,7 +67,7 @@ module _ (ws : List ℕ) (e : Ends) (c : Cursor) (L : List ℕ) (x : ℕ) (R : L
         (covered-right L (x ∷ R) (name x) (covered-here x R), tt),
       ))
 
-  cut-done : cutAfter ws e c .answer .answer ≡ Done
+  cut-done : cutAfter ws e c .result .answer ≡ Done
   unfolding cutAfter
   cut-done = refl
 
@@ -73,13 +75,13 @@ module _ (ws : List ℕ) (e : Ends) (c : Cursor) (L : List ℕ) (x : ℕ) (R : L
   cut-linked =
       rw (← (append-assoc L (x ∷ []) R))
       (all-append (λ y. isLinked (getD (cutAfter ws e c .words) y 0) ≡ true) (L ++ x ∷ []) R
-      (listing-linked _ _ _ (L ++ x ∷ []) (cut-sound .listing)) (listing-linked _ _ _ R cut-other))
+      (xor-listing-linked _ _ _ (L ++ x ∷ []) (cut-sound .listing)) (xor-listing-linked _ _ _ R cut-other))
 
 -- ---- the call
 
 module _ (ws : List ℕ) (e : Ends) (c : Cursor) (o : Ends) (f : poolFits (length ws) ≡ true) where
   call-full : (z : Place) (y : ℕ) (ys : List ℕ) → Sound ws e c z → Listing bitXor ws (o .head .0) (o .tail .0) (y ∷ ys)
-      → splitAfter ws e c o ≡ outcome ws (parted (Refused NotEmpty) e c o)
+      → splitAfter ws e c o ≡ outcome ws (editedTwo (Refused NotEmpty) e c o)
   unfolding splitAfter splitTest
   call-full z y ys s l = rw (sound-pair ws e c z o (y ∷ ys) f s l, some-is ws o y ys l)
 
@@ -91,7 +93,7 @@ module _ (ws : List ℕ) (e : Ends) (c : Cursor) (o : Ends) (f : poolFits (lengt
       rw (sound-pair ws e c (at L x R) o [] f s l, empty-is ws o l, n)
 
   call-null : (xs : List ℕ) → Sound ws e c (atNull xs) → Listing bitXor ws (o .head .0) (o .tail .0) []
-      → splitAfter ws e c o ≡ outcome ws (parted Done emptyEnds (nullCursor emptyEnds) e)
+      → splitAfter ws e c o ≡ outcome ws (editedTwo Done emptyEnds (nullCursor emptyEnds) e)
   unfolding splitAfter splitTest cutAtNull
   call-null xs s l =
       let n : isNull (c .current) ≡ true = rw (s .place .0) in rw (sound-pair ws e c (atNull xs) o [] f s l, empty-is ws o l, n)
@@ -113,10 +115,8 @@ module _ (ws : List ℕ) (e : Ends) (c : Cursor) (o : Ends) (f : poolFits (lengt
         sound = cut-sound ws e c L x R s;
         other = cut-other ws e c L x R s;
         marks =
-            marks-stay ws (cutAfter ws e c .words) (L ++ x ∷ R) out (listing-linked ws _ _ (L ++ x ∷ R) (s .listing)) (cut-linked ws e c L x R s);
-        others = λ h t vs k a b. listing-outside bitXor (L ++ x ∷ R) ws _ out h t vs a k;
-        kept = λ j a b. out .same j a;
-        long = out .long;
+            marks-stay ws (cutAfter ws e c .words) (L ++ x ∷ R) out (xor-listing-linked ws _ _ (L ++ x ∷ R) (s .listing)) (cut-linked ws e c L x R s);
+        alone = rw (append-nil (L ++ x ∷ R)) (outside-alone ws _ (L ++ x ∷ R) _ out);
       })
   split-after-does (atNull xs) [] s l =
       rw (call-null xs s l)
@@ -125,7 +125,5 @@ module _ (ws : List ℕ) (e : Ends) (c : Cursor) (o : Ends) (f : poolFits (lengt
         sound = record { listing = nothing; place = (refl, refl, refl) };
         other = s .listing;
         marks = λ j. refl;
-        others = λ h t vs k a b. k;
-        kept = λ j a b. refl;
-        long = refl;
+        alone = same-alone ws _ _;
       })

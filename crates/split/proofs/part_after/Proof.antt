@@ -1,4 +1,5 @@
 -- `part_after` meets its contract. Assumes nothing.
+use mathlib.Core.Path.{_∙_}
 use borrow.Author.Needs.{needs}
 use Rattle.split.specs.Splits.{cutAfter}
 use Rattle.split.proofs.part_after.Statement.{statement}
@@ -25,12 +26,20 @@ either-requires c κs = search needs
 new-requires-3 : tie.Need-new-requires-3
 new-requires-3 c κs = search needs
 
+new-requires-4 : tie.Need-new-requires-4
+new-requires-4 c κs = search needs
+
 same-length : tie.Need-same-length
-same-length c = search needs
+same-length c =
+    let k = c .before .before .before .before .before .before .before .before in
+    k .set .kept .0 ∙ k .before .before .before .before .replace-next-or-prev .kept .0
 
 returns : tie.Need-returns
 unfolding cutAfter
-returns c = rw (c .new3 .ensures, c .before .either .ensures, c .before .before .is-null .ensures, c .before .before .before .new2 .ensures, c .before .before .before .before .new .ensures, c .before .before .before .before .before .before .before .set .ensures, c .before .before .before .before .before .before .before .before .before .before .before .replace-next-or-prev .ensures)
+returns c =
+    let k = c .before .before .before in
+    let m = k .before .before .before .before .before in
+    rw (c .new4 .ensures, c .before .new3 .ensures, c .before .before .either .ensures, k .is-null .ensures, k .before .new2 .ensures, k .before .before .new .ensures, m .set .ensures, m .before .before .before .before .replace-next-or-prev .ensures)
 
 pub part-after-spec : {M : Type 1} → statement M
 part-after-spec =
@@ -43,5 +52,6 @@ part-after-spec =
     is-null-requires
     either-requires
     new-requires-3
+    new-requires-4
     same-length
     returns)

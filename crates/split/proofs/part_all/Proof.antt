@@ -10,9 +10,12 @@ empty-requires c κs = search needs
 null-requires : tie.Need-null-requires
 null-requires c κs = search needs
 
+new-requires : tie.Need-new-requires
+new-requires c κs = search needs
+
 returns : tie.Need-returns
 unfolding cutAtNull
-returns c = rw (c .null .ensures, c .before .empty .ensures)
+returns c = rw (c .new .ensures, c .before .null .ensures, c .before .before .empty .ensures)
 
 pub part-all-spec : {M : Type 1} → statement M
-part-all-spec = tie.close (tie.spec empty-requires null-requires returns)
+part-all-spec = tie.close (tie.spec empty-requires null-requires new-requires returns)

@@ -10,12 +10,16 @@ split-test-requires c κs = search needs
 is-refused-requires : tie.Need-is-refused-requires
 is-refused-requires c κs = search needs
 
+new-requires : tie.Need-new-requires
+new-requires c κs = search needs
+
 same-length : tie.Need-same-length
 same-length c = search needs
 
 returns : tie.Need-returns
 unfolding splitBefore
-returns c = rw (← (c .before .before .split-test .ensures), ← (c .before .is-refused .ensures), c .if1 .taken)
+returns c =
+    rw (c .new .ensures, ← (c .before .before .before .split-test .ensures), ← (c .before .before .is-refused .ensures), c .before .if1 .taken)
 
 is-null-requires : tie.Need-is-null-requires
 is-null-requires c κs = search needs
@@ -28,7 +32,9 @@ same-length-2 c = search needs
 
 returns-2 : tie.Need-returns-2
 unfolding splitBefore
-returns-2 c = rw (← (c .before .before .before .before .before .split-test .ensures), ← (c .before .before .before .before .is-refused .ensures), c .before .before .before .if1 .left, ← (c .before .before .is-null .ensures), c .before .if2 .taken, c .part-all .ensures)
+returns-2 c =
+    let k = c .before .before .before in
+    rw (← (k .before .before .split-test .ensures), ← (k .before .is-refused .ensures), k .if1 .left, ← (c .before .before .is-null .ensures), c .before .if2 .taken, c .part-all .ensures)
 
 part-before-requires : tie.Need-part-before-requires
 part-before-requires c κs = search needs
@@ -38,7 +44,10 @@ same-length-3 c = search needs
 
 returns-3 : tie.Need-returns-3
 unfolding splitBefore
-returns-3 c = rw (← (c .before .before .before .before .before .before .before .before .split-test .ensures), ← (c .before .before .before .before .before .before .before .is-refused .ensures), c .before .before .before .before .before .before .if1 .left, ← (c .before .before .before .before .before .is-null .ensures), c .before .before .before .before .if2 .left) (c .before .before .part-before .ensures)
+returns-3 c =
+    let k = c .before .before .before .before in
+    let m = k .before .before .before in
+    rw (← (m .before .split-test .ensures), ← (m .is-refused .ensures), k .before .before .if1 .left, ← (k .before .is-null .ensures), k .if2 .left) (c .before .before .part-before .ensures)
 
 pub split-before-spec : {M : Type 1} → statement M
 split-before-spec =
@@ -46,6 +55,7 @@ split-before-spec =
     (tie.spec
     split-test-requires
     is-refused-requires
+    new-requires
     same-length
     returns
     is-null-requires

@@ -11,12 +11,12 @@ use borrow.Author.Tests.{eqb-true, eqb-false, eq-eqb, ne-eqb, not-true}
 use Rattle.words.specs.Names.{poolFits}
 use Rattle.words.specs.Pool.{outcome}
 use Rattle.words.proofs.Laws.Cases.{both}
-use Rattle.standing.specs.declared.answer.Refusal.the-variants.{Size, EndsDoNotHold, NoListing}
-use Rattle.standing.specs.declared.answer.Answer.the-variants.{Done, Refused}
-use Rattle.standing.specs.declared.ends.Ends.{Ends}
-use Rattle.standing.specs.Answer.{isRefused}
-use Rattle.standing.specs.Ends.{isEmpty, emptyEnds}
-use Rattle.standing.specs.Tests.{endsHold}
+use Rattle.answers.specs.declared.Refusal.the-variants.{Size, EndsDoNotHold, NoListing}
+use Rattle.answers.specs.declared.Answer.the-variants.{Done, Refused}
+use Rattle.ends.specs.declared.Ends.{Ends}
+use Rattle.answers.specs.Answer.{isRefused}
+use Rattle.ends.specs.Ends.{isEmpty, emptyEnds}
+use Rattle.ends.specs.Tests.{endsHold}
 use Rattle.walk.specs.declared.step.Stood.{Stood}
 use Rattle.walk.specs.declared.walk.Walked.{Walked}
 use Rattle.walk.specs.Marks.{paint, unmarked, sizesFit, Marking, marking}
@@ -139,17 +139,17 @@ module _ (ws ms : List ℕ) (e : Ends) where
     pub step-done : r .ok ≡ true → marking ms2 (record { answer = Done; count = r .count }) ≡ walkAll ws ms e
     unfolding stood
     step-done o =
-        let ok = sym (ap (λ (x : Marking Stood). x .answer .ok) stepped) ∙ o in
-        ap (λ (x : Marking Stood). marking (x .marks) (record { answer = Done; count = x .answer .count })) stepped ∙ sym (walk-done s h ok)
+        let ok = sym (ap (λ (x : Marking Stood). x .result .ok) stepped) ∙ o in
+        ap (λ (x : Marking Stood). marking (x .marks) (record { answer = Done; count = x .result .count })) stepped ∙ sym (walk-done s h ok)
 
     pub step-fault : r .ok ≡ false → marking (unmarked ms2) (record { answer = Refused NoListing; count = r .count }) ≡ walkAll ws ms e
     unfolding stood
     step-fault o =
-        let ok = sym (ap (λ (x : Marking Stood). x .answer .ok) stepped) ∙ o in
+        let ok = sym (ap (λ (x : Marking Stood). x .result .ok) stepped) ∙ o in
         let long : length ms2 ≡ length ms =
         ap (λ (x : Marking Stood). length (x .marks)) stepped ∙ paint-length (unmarked ms) 1 _ ∙ length-replicate {A = ℕ} (length ms) 0 in
         ap (λ (n : ℕ). marking (replicate n 0) (record { answer = Refused NoListing; count = r .count })) long
-        ∙ ap (λ (x : Marking Stood). marking (unmarked ms) (record { answer = Refused NoListing; count = x .answer .count })) stepped
+        ∙ ap (λ (x : Marking Stood). marking (unmarked ms) (record { answer = Refused NoListing; count = x .result .count })) stepped
         ∙ sym (walk-fault s h ok)
 
 -- ---- clear
@@ -161,11 +161,11 @@ pub record Accepted (ws ms : List ℕ) (e : Ends) : Type 0 where
   pub right : walkOf ws (unmarked ms) e .ok ≡ true
   pub comes : walkAll ws ms e ≡ marking (paint (unmarked ms) 1 (walkOf ws (unmarked ms) e .met)) (record { answer = Done; count = length (walkOf ws (unmarked ms) e .met) })
 
-pub accepted : (ws ms : List ℕ) (e : Ends) → isRefused (walkAll ws ms e .answer .answer) ≡ false → Accepted ws ms e
+pub accepted : (ws ms : List ℕ) (e : Ends) → isRefused (walkAll ws ms e .result .answer) ≡ false → Accepted ws ms e
 accepted ws ms e h = go (view ws ms e)
   where
-    refused : (o : Marking Walked) → walkAll ws ms e ≡ o → isRefused (o .answer .answer) ≡ true → ⊥
-    refused o p k = false-true (sym h ∙ ap (λ (x : Marking Walked). isRefused (x .answer .answer)) p ∙ k)
+    refused : (o : Marking Walked) → walkAll ws ms e ≡ o → isRefused (o .result .answer) ≡ true → ⊥
+    refused o p k = false-true (sym h ∙ ap (λ (x : Marking Walked). isRefused (x .result .answer)) p ∙ k)
 
     go : View ws ms e → Accepted ws ms e
     go (size s p) = absurd (refused (unbegun ms Size) p refl)

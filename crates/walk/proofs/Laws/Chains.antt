@@ -4,10 +4,10 @@ use mathlib.Core.Bool.{false}
 use mathlib.Core.List.{[], _∷_}
 use Rattle.words.specs.Names.{isName, poolFits, poolLimit}
 use Rattle.words.specs.Pool.{wordAt}
-use Rattle.standing.specs.declared.answer.Refusal.the-variants.{NoListing}
-use Rattle.standing.specs.declared.answer.Answer.the-variants.{Done, Refused}
-use Rattle.standing.specs.Ends.{endsOf}
-use Rattle.standing.specs.Tests.{linkWith, endsHold}
+use Rattle.answers.specs.declared.Refusal.the-variants.{NoListing}
+use Rattle.answers.specs.declared.Answer.the-variants.{Done, Refused}
+use Rattle.ends.specs.Ends.{endsOf}
+use Rattle.ends.specs.Tests.{linkWith, endsHold}
 use Rattle.walk.specs.Marks.{isMarked, paint, sizesFit, marking}
 use Rattle.walk.specs.Walk.{isFree, walkFrom, atTail, walkOf}
 use Rattle.walk.specs.Calls.{verdict, walkAll}

@@ -12,10 +12,10 @@ use Rattle.words.specs.Changes.{Changes}
 use Rattle.words.proofs.Laws.Names.{name-inj}
 use Rattle.words.proofs.Laws.Nodes.{all-map, apart-sym}
 use Rattle.words.proofs.Laws.Listing.{listing-frame}
-use Rattle.standing.specs.declared.answer.Answer.the-variants.{Done}
-use Rattle.standing.specs.declared.ends.Ends.{Ends}
-use Rattle.standing.specs.Answer.{isRefused}
-use Rattle.standing.specs.Ends.{emptyEnds}
+use Rattle.answers.specs.declared.Answer.the-variants.{Done}
+use Rattle.ends.specs.declared.Ends.{Ends}
+use Rattle.answers.specs.Answer.{isRefused}
+use Rattle.ends.specs.Ends.{emptyEnds}
 use Rattle.walk.specs.Marks.{paint, unmarked, marking}
 use Rattle.walk.specs.Calls.{walkAll, clearAll}
 use Rattle.walk.proofs.Laws.Marks.{unmarked-clean, paint-length, paint-on, paint-off, paint-reverse}
@@ -64,7 +64,7 @@ pub clear-keeps : (ws xs : List ℕ) (h t : ℕ) (ys : List ℕ) → Apart xs ys
 clear-keeps ws xs h t ys a l = paint-keeps bitXor ws 1 xs h t ys a l
 
 -- refused: no word is changed, and the ends are those given
-pub clear-refuses : (ws ms : List ℕ) (e : Ends) → isRefused (walkAll ws ms e .answer .answer) ≡ true
-    → clearAll ws ms e ≡ outcome ws (marking (walkAll ws ms e .marks) (record { answer = walkAll ws ms e .answer .answer; ends = e }))
+pub clear-refuses : (ws ms : List ℕ) (e : Ends) → isRefused (walkAll ws ms e .result .answer) ≡ true
+    → clearAll ws ms e ≡ outcome ws (marking (walkAll ws ms e .marks) (record { answer = walkAll ws ms e .result .answer; ends = e }))
 unfolding clearAll
 clear-refuses ws ms e r = rw r

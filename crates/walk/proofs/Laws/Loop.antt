@@ -8,13 +8,13 @@ use native.Mathlib.Omega.{arith}
 use lib.Bits.{bitXor}
 use lib.Dec.{eqb}
 use lib.ListN.{length, getD, set}
-use borrow.Author.Tests.{eq-eqb, ne-eqb, leb-true}
+use borrow.Author.Tests.{eq-eqb, ne-eqb}
 use Rattle.words.specs.declared.names.Node.{Node}
 use Rattle.words.specs.declared.names.Name.{Name}
 use Rattle.words.specs.declared.names.Found.the-variants.{At, Nothing}
 use Rattle.words.specs.Names.{nodeOf, isName, decoding, poolFits}
 use Rattle.words.specs.Pool.{wordAt}
-use Rattle.words.specs.LinkOps.{nextOf}
+use Rattle.links.specs.XorOps.{nextOf}
 use Rattle.words.proofs.Laws.Names.{fits-small, named-node}
 use Rattle.walk.specs.declared.step.Stood.{Stood}
 use Rattle.walk.specs.Marks.{isMarked, paint, Marking, marking}

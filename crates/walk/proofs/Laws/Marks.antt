@@ -19,7 +19,7 @@ use Rattle.walk.specs.Marks.{elem, isMarked, paint, unmarked, Marking, m
 pub one-marking : {A : Type 0} (o : Marking A) (ms ms' : List ℕ) (a a' : A) → marking ms a ≡ o → marking ms' a' ≡ o → (ms ≡ ms') × (a ≡ a')
 one-marking {A} o ms ms' a a' p q =
     let e : marking ms a ≡ marking ms' a' = p ∙ sym q in
-    (ap (λ (r : Marking A). r .marks) e, ap (λ (r : Marking A). r .answer) e)
+    (ap (λ (r : Marking A). r .marks) e, ap (λ (r : Marking A). r .result) e)
 
 -- ---- one of the nodes, or none of them
 

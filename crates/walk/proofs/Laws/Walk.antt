@@ -11,16 +11,16 @@ use borrow.Author.Tests.{eq-eqb, eqb-true}
 use Rattle.words.specs.Names.{name, isName, poolFits}
 use Rattle.words.specs.Listing.{All, Distinct, front, back, Listing}
 use Rattle.words.proofs.Laws.Cases.{true-or-false}
-use Rattle.words.proofs.Laws.Xor.{xor-comm, xor-twice-l}
+use Rattle.links.proofs.Laws.Xor.{xor-comm, xor-twice-l}
 use Rattle.words.proofs.Laws.Names.{null-is-none}
 use Rattle.words.proofs.Laws.Nodes.{all-reverse, distinct-reverse}
-use Rattle.standing.specs.declared.answer.Refusal.the-variants.{NoListing}
-use Rattle.standing.specs.declared.answer.Answer.the-variants.{Done, Refused}
-use Rattle.standing.specs.declared.ends.Ends.{Ends}
-use Rattle.standing.specs.Answer.{isRefused}
-use Rattle.standing.specs.Ends.{isEmpty}
-use Rattle.standing.specs.Tests.{endsHold}
-use Rattle.standing.proofs.Laws.Holds.{name-null, alone, listing-ends-hold}
+use Rattle.answers.specs.declared.Refusal.the-variants.{NoListing}
+use Rattle.answers.specs.declared.Answer.the-variants.{Done, Refused}
+use Rattle.ends.specs.declared.Ends.{Ends}
+use Rattle.answers.specs.Answer.{isRefused}
+use Rattle.ends.specs.Ends.{isEmpty}
+use Rattle.ends.specs.Tests.{endsHold}
+use Rattle.ends.proofs.Laws.Holds.{name-null, alone, listing-ends-hold}
 use Rattle.walk.specs.declared.step.Stood.{Stood}
 use Rattle.walk.specs.declared.walk.Walked.{Walked}
 use Rattle.walk.specs.Marks.{isMarked, paint, unmarked, sizesFit, Marking, marking}
@@ -129,11 +129,11 @@ pub record Listed (ws ms : List ℕ) (e : Ends) (m : ℕ) : Type 0 where
   pub clean : Clean ms nodes
   pub comes : walkList ws ms e m ≡ marking (paint ms m nodes) (record { ok = true; count = length nodes })
 
-stood-ok : (ms : List ℕ) (m : ℕ) (w : Walk) → stood ms m w .answer .ok ≡ w .ok
+stood-ok : (ms : List ℕ) (m : ℕ) (w : Walk) → stood ms m w .result .ok ≡ w .ok
 unfolding stood
 stood-ok ms m w = refl
 
-pub list-sound : (ws ms : List ℕ) (e : Ends) (m : ℕ) → walkList ws ms e m .answer .ok ≡ true → Listed ws ms e m
+pub list-sound : (ws ms : List ℕ) (e : Ends) (m : ℕ) → walkList ws ms e m .result .ok ≡ true → Listed ws ms e m
 list-sound ws ms e m a = ⊎-elim walks refused (true-or-false (canWalk ws ms e m))
   where
     refused : canWalk ws ms e m ≡ false → Listed ws ms e m
@@ -142,7 +142,7 @@ list-sound ws ms e m a = ⊎-elim walks refused (true-or-false (canWalk ws ms e 
     walks : canWalk ws ms e m ≡ true → Listed ws ms e m
     walks k =
         let p = can ws ms e m k in
-        let ok : walkOf ws ms e .ok ≡ true = sym (stood-ok ms m (walkOf ws ms e)) ∙ ap (λ (x : Marking Stood). x .answer .ok) (sym (list-walks ws ms e m k)) ∙ a in
+        let ok : walkOf ws ms e .ok ≡ true = sym (stood-ok ms m (walkOf ws ms e)) ∙ ap (λ (x : Marking Stood). x .result .ok) (sym (list-walks ws ms e m k)) ∙ a in
         let l = walk-listing ws ms e (p .held) ok in
         record {
           nodes = reverse (walkOf ws ms e .met);
@@ -173,7 +173,7 @@ pub record Walkable (ws ms : List ℕ) (e : Ends) : Type 0 where
   pub comes : walkAll ws ms e ≡ marking (paint (unmarked ms) 1 nodes) (record { answer = Done; count = length nodes })
 
 -- what is accepted has a listing
-pub walk-sound : (ws ms : List ℕ) (e : Ends) → walkAll ws ms e .answer .answer ≡ Done → Walkable ws ms e
+pub walk-sound : (ws ms : List ℕ) (e : Ends) → walkAll ws ms e .result .answer ≡ Done → Walkable ws ms e
 walk-sound ws ms e d =
     let a = accepted ws ms e (ap isRefused d) in
     let p = sizes ws ms (a .sized) in
@@ -197,9 +197,9 @@ walk-refuses ws ms e s h none =
 
 -- the number, where the walk is begun: how many nodes it stood on, all of them different
 pub walk-counts : (ws ms : List ℕ) (e : Ends) → sizesFit ws ms ≡ true → endsHold ws e ≡ true
-    → (walkAll ws ms e .answer .count ≡ length (walkOf ws (unmarked ms) e .met)) × Distinct (walkOf ws (unmarked ms) e .met)
+    → (walkAll ws ms e .result .count ≡ length (walkOf ws (unmarked ms) e .met)) × Distinct (walkOf ws (unmarked ms) e .met)
 walk-counts ws ms e s h = (
-  ⊎-elim (λ ok. ap (λ (x : Marking Walked). x .answer .count) (walk-done ws ms e s h ok))
-      (λ no. ap (λ (x : Marking Walked). x .answer .count) (walk-fault ws ms e s h no)) (true-or-false (walkOf ws (unmarked ms) e .ok)),
+  ⊎-elim (λ ok. ap (λ (x : Marking Walked). x .result .count) (walk-done ws ms e s h ok))
+      (λ no. ap (λ (x : Marking Walked). x .result .count) (walk-fault ws ms e s h no)) (true-or-false (walkOf ws (unmarked ms) e .ok)),
   walk-differs ws (unmarked ms) e .0,
 )

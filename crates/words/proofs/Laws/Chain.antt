@@ -1,12 +1,11 @@
 -- Laws of chains, whatever a word is made of. Assumes nothing.
 use mathlib.Core.Path.{_≡_, refl, sym, ap, _∙_}
-use mathlib.Core.Logic.{_≢_}
 use mathlib.Core.List.{List, [], _∷_, _++_, reverse, reverse-cons, reverse-reverse}
-use Prim.Native.Nat.{ℕ, _+_, _*_, _%_}
+use Prim.Native.Nat.{ℕ, _+_, _%_}
 use native.Mathlib.Omega.{arith}
-use lib.ListN.{length, getD}
+use lib.ListN.{getD}
 use Rattle.words.specs.Names.{name}
-use Rattle.words.specs.Listing.{All, Off, Distinct, Apart, front, back, Chain}
+use Rattle.words.specs.Listing.{All, Off, front, back, Chain}
 use Rattle.words.specs.Changes.{Changes}
 
 -- ---- the ends of parts

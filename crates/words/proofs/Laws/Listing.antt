@@ -1,17 +1,15 @@
 -- Laws of listings: they are parts between nulls; there is one at most; their reverse; what keeps them. Assumes nothing.
 use mathlib.Core.Path.{_≡_, refl, sym, ap, _∙_}
 use mathlib.Core.Logic.{_≢_}
-use mathlib.Core.List.{List, [], _∷_, _++_, reverse}
-use Prim.Native.Nat.{ℕ, _+_, _*_, _%_, _<_}
+use mathlib.Core.List.{List, reverse}
+use Prim.Native.Nat.{ℕ, _%_}
 use native.Mathlib.Omega.{arith}
-use lib.Bits.{bitXor}
-use lib.ListN.{length, getD}
+use lib.ListN.{getD}
 use Rattle.words.specs.Names.{name}
-use Rattle.words.specs.Listing.{All, Off, Distinct, Apart, front, back, Chain, Listing}
+use Rattle.words.specs.Listing.{All, Off, front, back, Listing}
 use Rattle.words.specs.Changes.{Changes}
-use Rattle.words.proofs.Laws.Xor.{xor-comm, xor-even, xor-inj-l}
-use Rattle.words.proofs.Laws.Nodes.{all-map, all-reverse, distinct-reverse}
-use Rattle.words.proofs.Laws.Chain.{Settles, Symmetric, Evens, chain-unique, chain-reverse, chain-even, front-reverse, back-reverse}
+use Rattle.words.proofs.Laws.Nodes.{all-map}
+use Rattle.words.proofs.Laws.Chain.{Settles, Symmetric, Evens, chain-unique, chain-even, front-reverse, back-reverse}
 use Rattle.words.proofs.Laws.Part.{Part, part-frame, part-reverse}
 
 module _ (word : ℕ → ℕ → ℕ) where
@@ -61,14 +59,3 @@ module _ (word : ℕ → ℕ → ℕ) where
     where
       odd : (x : ℕ) → getD ws x 0 % 2 ≡ 0 → x ≡ i → ⊥
       odd x ev e = let v : getD ws x 0 ≡ 1 = ap (λ (j : ℕ). getD ws j 0) e ∙ u in omega arith
-
--- ---- of the xor list
-
-pub xor-listing-unique : (ws : List ℕ) (h t t' : ℕ) (xs ys : List ℕ) → Listing bitXor ws h t xs → Listing bitXor ws h t' ys → (xs ≡ ys) × (t ≡ t')
-xor-listing-unique = listing-unique bitXor xor-inj-l
-
-pub xor-listing-reverse : (ws : List ℕ) (h t : ℕ) (xs : List ℕ) → Listing bitXor ws h t xs → Listing bitXor ws t h (reverse xs)
-xor-listing-reverse = listing-mirror bitXor xor-comm
-
-pub xor-unlinked-off : (ws : List ℕ) (h t : ℕ) (xs : List ℕ) (i : ℕ) → Listing bitXor ws h t xs → getD ws i 0 ≡ 1 → Off i xs
-xor-unlinked-off = unlinked-off bitXor xor-even

@@ -3,19 +3,17 @@ use mathlib.Core.Path.{_≡_, refl, sym, ap, _∙_}
 use mathlib.Core.Logic.{_≢_, ⊎-elim}
 use mathlib.Core.Bool.{Bool, true, false, not}
 use mathlib.Core.List.{List, [], _∷_, _++_}
-use Prim.Native.Nat.{ℕ, _+_, _*_, _%_, _<_}
+use Prim.Native.Nat.{ℕ, _+_, _%_}
 use native.Mathlib.Omega.{arith}
-use lib.Bits.{bitXor}
 use lib.Dec.{eqb}
 use lib.ListN.{length, getD}
 use borrow.Author.Tests.{ne-eqb, eqb-true, not-false}
 use Rattle.words.specs.Names.{name, isLinked}
 use Rattle.words.specs.Listing.{All, Off, Apart, front, back, Chain, Listing}
 use Rattle.words.specs.Changes.{Changes}
-use Rattle.words.proofs.Laws.Xor.{xor-even}
 use Rattle.words.proofs.Laws.Nodes.{all-map, all-left, all-right, holds-or-off}
 use Rattle.words.proofs.Laws.Names.{name-inj, name-not-null}
-use Rattle.words.proofs.Laws.Chain.{chain-even, lastOf, back-last, all-last}
+use Rattle.words.proofs.Laws.Chain.{Evens, chain-even, lastOf, back-last, all-last}
 
 -- the pool is as long as it was, and no word differs but of the nodes xs
 pub record Outside (xs ws ws' : List ℕ) : Type 0 where
@@ -75,11 +73,11 @@ even-linked : (v : ℕ) → v % 2 ≡ 0 → isLinked v ≡ true
 unfolding isLinked
 even-linked v e = ap not (ne-eqb v 1 (λ z. omega arith))
 
--- the nodes of a listing are linked
-pub listing-linked : (ws : List ℕ) (h t : ℕ) (xs : List ℕ) → Listing bitXor ws h t xs → All (λ x. isLinked (getD ws x 0) ≡ true) xs
-listing-linked ws h t xs l =
+-- the nodes of a listing are linked, where a word made of even ones is even
+pub listing-linked : (word : ℕ → ℕ → ℕ) → Evens word → (ws : List ℕ) (h t : ℕ) (xs : List ℕ) → Listing word ws h t xs → All (λ x. isLinked (getD ws x 0) ≡ true) xs
+listing-linked word even ws h t xs l =
     all-map (λ x. getD ws x 0 % 2 ≡ 0) (λ x. isLinked (getD ws x 0) ≡ true) (λ x e. even-linked (getD ws x 0) e) xs
-    (chain-even bitXor xor-even ws 0 xs 0 refl refl (l .chain))
+    (chain-even word even ws 0 xs 0 refl refl (l .chain))
 
 pub unlinked-word : (v : ℕ) → isLinked v ≡ false → v ≡ 1
 unfolding isLinked

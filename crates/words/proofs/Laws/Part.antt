@@ -1,20 +1,16 @@
 -- A part of a listing: distinct nodes of the pool that are a chain between two outer names. Every edit is made of parts
 -- that are split, joined, kept, and given another outer name by one store. Assumes nothing.
-use mathlib.Core.Path.{_≡_, refl, sym, ap, _∙_}
+use mathlib.Core.Path.{_≡_, sym, ap, _∙_}
 use mathlib.Core.Logic.{_≢_}
 use mathlib.Core.List.{List, [], _∷_, _++_, reverse}
-use Prim.Native.Nat.{ℕ, _+_, _*_, _<_}
-use native.Mathlib.Omega.{arith}
-use lib.Bits.{bitXor}
-use lib.ListN.{length, getD, set, length-set}
+use Prim.Native.Nat.{ℕ, _+_, _<_}
+use lib.ListN.{length, getD, set}
 use lib.Seq.{getD-set-other, getD-set-same}
 use Rattle.words.specs.Names.{name}
 use Rattle.words.specs.Pool.{wordAt, putAt}
-use Rattle.words.specs.LinkOps.{replaceNextOrPrev}
 use Rattle.words.specs.Listing.{All, Off, Distinct, Apart, front, back, Chain}
 use Rattle.words.specs.Changes.{Changes}
-use Rattle.words.proofs.Laws.Xor.{xor-comm, xor-assoc, xor-twice-r, xor-twice-l, xor-swap}
-use Rattle.words.proofs.Laws.Nodes.{all-map, all-append, all-left, all-right, all-reverse, apart-sym, distinct-append, distinct-left, distinct-right, distinct-apart, distinct-reverse}
+use Rattle.words.proofs.Laws.Nodes.{all-map, all-append, all-left, all-right, all-reverse, distinct-append, distinct-left, distinct-right, distinct-reverse}
 use Rattle.words.proofs.Laws.Names.{name-inj, name-not-null}
 use Rattle.words.proofs.Laws.Pool.{word-name, put-name, put-length, changes-put}
 use Rattle.words.proofs.Laws.Chain.{chain-split, chain-join, chain-frame, chain-reverse, Symmetric, lastOf, back-last, all-last}
@@ -137,23 +133,3 @@ module _ (word : ℕ → ℕ → ℕ) where
         ranged = all-reverse (λ x. x < length ws) xs (h .ranged);
         chain = chain-reverse word comm ws p xs q (h .chain);
       }
-
--- ---- the xor list: `replace_next_or_prev` is the retarget, on either side
-
-pub trade-after : (q q' : ℕ) (ws : List ℕ) (p : ℕ) (xs : List ℕ) → Part bitXor ws p xs q
-    → Part bitXor (replaceNextOrPrev ws (back 0 xs) q q') p xs q'
-unfolding replaceNextOrPrev
-trade-after q q' ws p xs h =
-    retarget-after bitXor (λ v. bitXor (bitXor v q) q') q q' (λ a. ap (λ (z : ℕ). bitXor z q') (xor-twice-r a q)) ws p xs h
-
-pub trade-before : (p p' : ℕ) (ws : List ℕ) (xs : List ℕ) (q : ℕ) → Part bitXor ws p xs q
-    → Part bitXor (replaceNextOrPrev ws (front xs 0) p p') p' xs q
-unfolding replaceNextOrPrev
-trade-before p p' ws xs q h =
-    retarget-before bitXor (λ v. bitXor (bitXor v p) p') p p'
-    (λ b. ap (λ (z : ℕ). bitXor z p') (xor-comm (bitXor p b) p ∙ xor-twice-l p b) ∙ xor-comm b p') ws xs q h
-
-pub trade-keep : (ws : List ℕ) (w old new p : ℕ) (xs : List ℕ) (q : ℕ) → Away w xs → Part bitXor ws p xs q
-    → Part bitXor (replaceNextOrPrev ws w old new) p xs q
-unfolding replaceNextOrPrev
-trade-keep ws w old new p xs q a h = part-keep bitXor ws w _ p xs q a h

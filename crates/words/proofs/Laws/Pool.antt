@@ -1,21 +1,16 @@
 -- Laws of reading and storing by name, and of how much a store changes. Assumes nothing.
 use mathlib.Core.Path.{_≡_, refl, sym, ap, _∙_}
-use mathlib.Core.Logic.{_≢_, _⊎_, inl, inr, ⊎-elim}
+use mathlib.Core.Logic.{_≢_, _⊎_, ⊎-elim}
 use mathlib.Core.Bool.{Bool, true, false, cond}
 use mathlib.Core.List.{List, [], _∷_, _++_}
-use Prim.Native.Nat.{ℕ, _+_, _*_, _/_, _-_, _<_, _≤_}
-use native.Mathlib.Omega.{arith}
-use lib.Bits.{bitXor}
+use Prim.Native.Nat.{ℕ, _+_, _-_, _≤_}
 use lib.Dec.{lit≤}
 use lib.ListN.{length, getD, set, length-set, List·getD-eq-default}
 use lib.Seq.{getD-set-same, getD-set-other, set-out, set-set, set-comm}
 use Rattle.words.specs.Names.{name, nodeOf, isName}
 use Rattle.words.specs.Pool.{wordAt, putAt, Outcome, outcome}
-use Rattle.words.specs.LinkOps.{replaceNextOrPrev}
-use Rattle.words.specs.Listing.{Off}
 use Rattle.words.specs.Changes.{Changes, AtMostFour}
-use Rattle.words.proofs.Laws.Cases.{below-or-not, same-or-not, true-or-false}
-use Rattle.words.proofs.Laws.Xor.{xor-swap}
+use Rattle.words.proofs.Laws.Cases.{below-or-not, true-or-false}
 use Rattle.words.proofs.Laws.Nodes.{all-left, all-right}
 use Rattle.words.proofs.Laws.Names.{node-name, name-is, name-past, null-is-none, named-name, named-node}
 
@@ -92,37 +87,6 @@ put-comm ws w v u k ne =
         let j = nodeOf u in
         let d : i ≢ j = λ e. ne (a ∙ ap name e ∙ sym b) in
         rw (a, b, put-name ws i v, put-name (set ws i v) j k, put-name ws j k, put-name (set ws j k) i v) (set-comm ws i j v k d)
-
--- ---- trades of neighbours may be made in any order, at any places
-
-pub trades-comm : (ws : List ℕ) (w a b u c d : ℕ)
-    → replaceNextOrPrev (replaceNextOrPrev ws w a b) u c d ≡ replaceNextOrPrev (replaceNextOrPrev ws u c d) w a b
-unfolding replaceNextOrPrev
-trades-comm ws w a b u c d = ⊎-elim same other (same-or-not w u)
-  where
-    once : (ws : List ℕ) (w a b c d : ℕ) → isName (length ws) w ≡ true
-        → putAt (putAt ws w (bitXor (bitXor (wordAt ws w) a) b)) w (bitXor (bitXor (wordAt (putAt ws w (bitXor (bitXor (wordAt ws w) a) b)) w) c) d)
-        ≡ putAt ws w (bitXor (bitXor (bitXor (bitXor (wordAt ws w) a) b) c) d)
-    once ws w a b c d h = rw (word-put-same ws w (bitXor (bitXor (wordAt ws w) a) b) h) (put-put ws w _ _)
-
-    four : (v a b c d : ℕ) → bitXor (bitXor (bitXor (bitXor v a) b) c) d ≡ bitXor (bitXor (bitXor (bitXor v c) d) a) b
-    four v a b c d =
-        rw (xor-swap (bitXor v a) b c, xor-swap v a c, xor-swap (bitXor (bitXor v c) a) b d, xor-swap (bitXor v c) a d)
-
-    same : w ≡ u → putAt (putAt ws w (bitXor (bitXor (wordAt ws w) a) b)) u (bitXor (bitXor (wordAt (putAt ws w (bitXor (bitXor (wordAt ws w) a) b)) u) c) d)
-        ≡ putAt (putAt ws u (bitXor (bitXor (wordAt ws u) c) d)) w (bitXor (bitXor (wordAt (putAt ws u (bitXor (bitXor (wordAt ws u) c) d)) w) a) b)
-    same e =
-        rw (← e)
-        (⊎-elim
-        (λ h. once ws w a b c d h ∙ ap (putAt ws w) (four (wordAt ws w) a b c d) ∙ sym (once ws w c d a b h))
-        (λ h. rw (put-none ws w (bitXor (bitXor (wordAt ws w) a) b) h, put-none ws w (bitXor (bitXor (wordAt ws w) c) d) h) (sym (put-none ws w _ h)))
-        (true-or-false (isName (length ws) w)))
-
-    other : w ≢ u → putAt (putAt ws w (bitXor (bitXor (wordAt ws w) a) b)) u (bitXor (bitXor (wordAt (putAt ws w (bitXor (bitXor (wordAt ws w) a) b)) u) c) d)
-        ≡ putAt (putAt ws u (bitXor (bitXor (wordAt ws u) c) d)) w (bitXor (bitXor (wordAt (putAt ws u (bitXor (bitXor (wordAt ws u) c) d)) w) a) b)
-    other ne =
-        rw (word-put-other ws w (bitXor (bitXor (wordAt ws w) a) b) u (λ e. ne (sym e)), word-put-other ws u (bitXor (bitXor (wordAt ws u) c) d) w ne)
-        (put-comm ws w _ u _ ne)
 
 -- ---- how much is changed
 

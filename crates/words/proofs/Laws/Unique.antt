@@ -7,7 +7,7 @@ use Rattle.words.specs.Pool.{Outcome, outcome}
 pub one-outcome : {A : Type 0} (o : Outcome A) (ws ws' : List ℕ) (a a' : A) → outcome ws a ≡ o → outcome ws' a' ≡ o → (ws ≡ ws') × (a ≡ a')
 one-outcome {A} o ws ws' a a' p q =
     let e : outcome ws a ≡ outcome ws' a' = p ∙ sym q in
-    (ap (λ (r : Outcome A). r .words) e, ap (λ (r : Outcome A). r .answer) e)
+    (ap (λ (r : Outcome A). r .words) e, ap (λ (r : Outcome A). r .result) e)
 
 pub one-answer : {A : Type 0} (o a a' : A) → a ≡ o → a' ≡ o → a ≡ a'
 one-answer o a a' p q = p ∙ sym q

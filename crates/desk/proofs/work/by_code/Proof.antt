@@ -6,8 +6,8 @@ use borrow.Author.Needs.{needs}
 use borrow.Author.Tests.{ne-eqb}
 use Rattle.words.specs.declared.names.Node.{Node}
 use Rattle.words.specs.Pool.{Outcome}
-use Rattle.desk.specs.declared.desk.Row.{Row}
-use Rattle.desk.specs.declared.desk.Worked.{Worked}
+use Rattle.desk.specs.declared.Row.{Row}
+use Rattle.desk.specs.declared.Worked.{Worked}
 use Rattle.desk.specs.Work.{byCode}
 use Rattle.desk.proofs.work.by_code.Statement.{statement}
 use Rattle.desk.proofs.work.by_code.Tie as tie

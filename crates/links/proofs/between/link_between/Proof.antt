@@ -1,6 +1,6 @@
 -- `link_between` meets its contract. Assumes nothing.
 use borrow.Author.Needs.{needs}
-use Rattle.words.specs.LinkOps.{linkBetween}
+use Rattle.links.specs.XorOps.{linkBetween}
 use Rattle.links.proofs.between.link_between.Statement.{statement}
 use Rattle.links.proofs.between.link_between.Tie as tie
 

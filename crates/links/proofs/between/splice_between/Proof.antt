@@ -1,6 +1,6 @@
 -- `splice_between` meets its contract. Assumes nothing.
 use borrow.Author.Needs.{needs}
-use Rattle.words.specs.LinkOps.{spliceBetween}
+use Rattle.links.specs.XorOps.{spliceBetween}
 use Rattle.links.proofs.between.splice_between.Statement.{statement}
 use Rattle.links.proofs.between.splice_between.Tie as tie
 

@@ -1,0 +1,2 @@
+-- The laws of answers.
+pub mod Ladder

@@ -1,0 +1,2 @@
+-- What must be believed of refusals and answers.
+pub mod Answer

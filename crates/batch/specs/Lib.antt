@@ -1,3 +1,0 @@
--- What must be believed of the batch desk.
-pub mod Step
-pub mod Run

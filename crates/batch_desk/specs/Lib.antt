@@ -1,0 +1,4 @@
+-- What must be believed of the batch desk, and the steps that its code is made of.
+pub mod Step
+pub mod Run
+pub mod Steps

@@ -1,2 +1,0 @@
--- What is proved of every edit of one list at a cursor.
-pub mod Laws

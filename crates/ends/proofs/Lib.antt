@@ -1,0 +1,2 @@
+-- What is proved of ends and tests, beside the proof of each function.
+pub mod Laws

@@ -1,0 +1,3 @@
+-- What must be believed of ends and of the tests of fixed size.
+pub mod Ends
+pub mod Tests

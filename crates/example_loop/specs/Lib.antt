@@ -1,0 +1,2 @@
+-- What must be believed of the example.
+pub mod Pushed

@@ -1,0 +1,55 @@
+-- `words` ends: each turn leaves fewer words.
+use Prim.Native.Nat.{_-_}
+use borrow.Author.Needs.{needs}
+use lib.ListN.{length}
+use Rattle.garbage.proofs.show_pool.words.Statement.{statement}
+use Rattle.garbage.proofs.show_pool.words.Tie as tie
+
+abbrev Inv-loop : tie.InvT-loop
+Inv-loop a sum₀ i₀ sum i = Unit {0}
+
+abbrev μ-loop : tie.MeasureT-loop
+μ-loop a sum₀ i₀ sum i = length a - i
+
+loop-holds : tie.Need-loop-holds Inv-loop μ-loop
+loop-holds c = search needs
+
+mul-element : tie.Need-mul-element Inv-loop μ-loop
+mul-element c = search needs
+
+shared-slice-read-element : tie.Need-shared-slice-read-element Inv-loop μ-loop
+shared-slice-read-element c = search needs
+
+element-requires : tie.Need-element-requires Inv-loop μ-loop
+element-requires c κs = search needs
+
+add-i : tie.Need-add-i Inv-loop μ-loop
+add-i c = search needs
+
+loop-less : tie.Need-loop-less Inv-loop μ-loop
+loop-less c = search needs
+
+loop-again : tie.Need-loop-again Inv-loop μ-loop
+loop-again c = search needs
+
+end-requires : tie.Need-end-requires Inv-loop μ-loop
+end-requires c κs = search needs
+
+returns : tie.Need-returns Inv-loop μ-loop
+returns c = search needs
+
+pub words-spec : {M : Type 1} → statement M
+words-spec =
+    tie.close
+    (tie.spec
+    Inv-loop
+    μ-loop
+    loop-holds
+    mul-element
+    shared-slice-read-element
+    element-requires
+    add-i
+    loop-less
+    loop-again
+    end-requires
+    returns)

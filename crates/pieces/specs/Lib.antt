@@ -1,2 +1,0 @@
--- What must be believed of pieces of an input and of its answers.
-pub mod Pieces

@@ -1,0 +1,2 @@
+-- The laws of lists in a lent slice.
+pub mod Rows

@@ -1,0 +1,2 @@
+-- What is proved of lists in a lent slice, beside the proof of each function.
+pub mod Laws

@@ -1,0 +1,2 @@
+-- What must be believed of lists in a lent slice.
+pub mod Rows

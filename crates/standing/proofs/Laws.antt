@@ -1,4 +1,0 @@
--- The laws of answers, ends and standing.
-pub mod Ladder
-pub mod Holds
-pub mod Stands
