@@ -51,6 +51,12 @@ def caller(name="caller", *flags):
     return made(OUT / name, sources, command)
 
 
+def faults():
+    """What makes reads and writes of the program fail, to be loaded into it."""
+    target, source = OUT / "faults.so", HOST / "faults.c"
+    return made(target, [source], ["gcc", "-std=c11", "-O1", "-Wall", "-Wextra", "-Werror", "-shared", "-fPIC", "-o", target, source])
+
+
 def oracle():
     """The crate's own file behind the command lines."""
     sources = [HOST / "oracle.rs", HOST / "oracle_desk.rs", *CRATE.glob("*.rs")]

@@ -13,9 +13,11 @@ The first error that does not merely follow from another tells which it is:
   or a field that is not there says so later in the log as well, for then the code has another shape.
 A function that is proved with no proof file has no error. The note that a need of it is not proved stands for one.
 
-An edit `F-WHAT.edit` must leave F unproved. An edit may make several functions wrong at once: then a comment line
-    # refused: F G H
-names them, and each must be refused for a fact of its own.
+A wrong answer to F has the label F-WHAT. It is an edit of its own, F-WHAT.edit, and must leave F unproved; or it is one of several in
+an edit that makes many functions wrong at once, since each edit costs a check of its crate. There it begins with the comment lines
+    # F-WHAT: what is wrong
+    # refused: F
+and each function that is named so, F or one that F calls, must be refused for a fact of its own.
 """
 import pathlib
 import re
@@ -32,6 +34,7 @@ FACT = re.compile("|".join([
     r"`search`: no proof of",
     r"list the missing equation",  # of `cc`
     r"(computed as far as they go|as printed), the two types",
+    r"expected type `[^`]*`, but this has type `[^`]*`\s*computed as far as they go, the two types",
     r"`[^`]*`\s*≟ `[^`]*`\s*does not hold",
 ]))
 UNFIT = re.compile(r"has no `Need-|has no field `|expected a type, but")
@@ -43,6 +46,11 @@ def refused_names(edit):
     """The functions that an edit's `# refused:` lines name."""
     lines = re.findall(r"^# refused:(.*)$", edit.read_text(encoding="utf-8"), re.M)
     return [name for line in lines for name in line.split()]
+
+
+def answers(edit):
+    """The labels of the wrong answers in an edit."""
+    return re.findall(r"^# (\w+-\w+):", edit.read_text(encoding="utf-8"), re.M) or [edit.stem]
 
 
 def labels(name):
@@ -84,6 +92,12 @@ class Log:
         """The functions of that name, or label, that are not proved."""
         return [path for path, state in self.state.items() if path_is(path, name) and state != "proved"]
 
+    def proves(self, label):
+        """Whether the function that a label is of is proved all the same."""
+        meant = [state for path, state in self.state.items()
+                 if label.startswith(labels(path)) or label.startswith(labels("::".join(path.split("::")[-2:])))]
+        return bool(meant) and all(state == "proved" for state in meant)
+
     def fault(self, path=None):
         """What is wrong with this log as a refusal for a fact, of one function if a path is given; None if it is one."""
         place = "" if path is None else "proofs/" + path.replace("::", "/") + "/"
@@ -111,15 +125,12 @@ def faults(edit):
     log = Log(folder)
     if not log.refused:
         return ["it was not refused"]
-    named = refused_names(edit)
+    named, own = refused_names(edit), answers(edit)
+    found = [f"{one} is proved all the same" for one in own if log.proves(one)]
     if not named:
-        meant = [path for path in log.state if label.startswith(labels(path))
-                 or label.startswith(labels("::".join(path.split("::")[-2:])))]
-        if meant and all(log.state[path] == "proved" for path in meant):
-            return [f"{' '.join(meant)} is proved all the same"]
-        fault = log.fault()
-        return [fault] if fault else []
-    found = []
+        return found or [fault for fault in [log.fault()] if fault]
+    if own != [label] and len(own) != len(named):
+        found.append(f"{len(own)} wrong answers, and {len(named)} functions that are refused")
     for name in named:
         paths = log.unproved(name)
         if not paths:
@@ -132,8 +143,8 @@ def main():
     crates = sys.argv[1:] or sorted(path.name for path in (ROOT / "crates").iterdir())
     edits = [edit for crate in crates for edit in sorted((ROOT / "crates" / crate / "must-fail").glob("*.edit"))]
     wrong = [f"{edit.parts[-3]}/{edit.stem}: {fault}" for edit in edits for fault in faults(edit)]
-    answers = sum(len(refused_names(edit)) or 1 for edit in edits)
-    print("\n".join(wrong + [f"{len(edits)} edits, {answers} wrong answers" +
+    count = sum(max(len(answers(edit)), len(refused_names(edit))) for edit in edits)
+    print("\n".join(wrong + [f"{len(edits)} edits, {count} wrong answers" +
                              (f", {len(wrong)} faults" if wrong else ", each refused for a fact")]))
     sys.exit(1 if wrong or not edits else 0)
 

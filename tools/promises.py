@@ -1,17 +1,19 @@
 #!/usr/bin/env python3
-"""Checks docs/PROMISES.md: every name that its tables give exists, and every public function and every must-fail edit stands
-in one of them.
+"""Checks docs/PROMISES.md: every name that its tables give exists, and every public function and every wrong answer of must-fail
+stands in one of them.
 
 A row is: rule | definition | contract | theorem | must-fail edit | run. In its cells
   `words.Names.name`              is a definition of crates/words/specs/Names.antt,
   `words::names::Node::to_name`   a public function of crates/words/src,
   `words.Laws.Names.name-is`      a law of crates/words/proofs/Laws/Names.antt,
-  `words/to_name-twice_i`         an edit of crates/words/must-fail,
+  `words/to_name-twice_i`         a wrong answer in crates/words/must-fail: an edit, or one of several in an edit,
   `cases` or `host/x.sh`          a program, or a script of this repository.
 """
 import pathlib
 import re
 import sys
+
+from edits import answers
 
 ROOT = pathlib.Path(__file__).resolve().parent.parent
 CRATES = ROOT / "crates"
@@ -46,6 +48,7 @@ def functions():
 
 
 PUBLIC = set(functions())
+EDITS = {f"{path.parts[-3]}/{label}" for path in CRATES.glob("*/must-fail/*.edit") for label in answers(path)}
 
 
 def exists(column, name):
@@ -56,8 +59,7 @@ def exists(column, name):
     if column == "contract":
         return name in PUBLIC
     if column == "edit":
-        crate, _, label = name.partition("/")
-        return (CRATES / crate / "must-fail" / f"{label}.edit").is_file()
+        return name in EDITS
     return (CRATES / name / "src" / "main.rt").is_file() or (ROOT / name).is_file()
 
 
@@ -78,9 +80,8 @@ for number, line in enumerate((ROOT / "docs" / "PROMISES.md").read_text(encoding
             if not exists(column, name):
                 wrong.append(f"docs/PROMISES.md:{number}: there is no {column} {name}")
 
-EDITS = {f"{path.parts[-3]}/{path.stem}" for path in CRATES.glob("*/must-fail/*.edit")}
 wrong += [f"docs/PROMISES.md: {name} is public, and no row names its contract" for name in sorted(PUBLIC - named)]
-wrong += [f"docs/PROMISES.md: no row names the edit {name}" for name in sorted(EDITS - named)]
+wrong += [f"docs/PROMISES.md: no row names the wrong answer {name}" for name in sorted(EDITS - named)]
 if rows == 0:
     wrong.append("docs/PROMISES.md: no rows")
 print("\n".join(wrong) if wrong else f"{rows} rows of promises, every name is there")

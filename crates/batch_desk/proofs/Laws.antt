@@ -4,4 +4,5 @@ pub mod Step
 pub mod Take
 pub mod Finish
 pub mod Whole
+pub mod Pieces
 pub mod Unique

@@ -15,7 +15,7 @@ use Rattle.lines.specs.declared.line.Parsed.the-variants.{Right, Malformed as W
 use Rattle.desk.specs.declared.Row.{Row}
 use Rattle.desk.specs.declared.Worked.{Worked}
 use Rattle.desk.specs.Reply.{replyTo, replyToAudit, replyUnread}
-use Rattle.desk.specs.Step.{command}
+use Rattle.desk.specs.Step.{Desk, DeskStepped, command, stepTested}
 use Rattle.batch_desk.specs.declared.RowsStepped.{RowsStepped}
 use Rattle.batch_desk.specs.Step.{noMarks}
 
@@ -39,7 +39,7 @@ otherList Wrong = 0
 abbrev pub answeredBy : Outcome (Marking Worked) → Outcome RowsStepped
 answeredBy c = let w = c .result .result in outcome (c .words) (rowsStepped (w .named) (w .other) (replyTo 1024 w))
 
--- One line: 11, the audit, 2, and then the command. No line but a command changes anything.
+-- A line that was tested for 11: the audit, 2, and then the command. No line but a command changes anything.
 abbrev pub stepRows : List ℕ → List Ends → Row → Row → Parsed → Outcome RowsStepped
 stepRows ws es r q Wrong = outcome ws (rowsStepped r q (replyUnread Malformed))
 stepRows ws es r q (Right o) =
@@ -48,3 +48,7 @@ stepRows ws es r q (Right o) =
     (cond (ltb (o .list) 8 && ltb (o .other) 8)
     (answeredBy (command ws noMarks r q o))
     (outcome ws (rowsStepped r q (replyUnread NoSuchList))))
+
+-- The same on the desk, which is what these steps come to.
+unfoldable pub batchTested : Desk → Parsed → DeskStepped
+batchTested d p = stepTested d noMarks p .result

@@ -1,15 +1,18 @@
 // The batch desk: 1,024 words, eight lists and their cursors. It goes in and comes back by value, with its answer to the last line
 // in it. A run is over bytes that come in pieces: a line may begin in one piece and end in a later one.
+use answers::Answer;
 use answers::Refusal;
 use audit::audit;
 use cursor::Cursor;
 use desk::Row;
 use desk::Worked;
+use desk::work::by_code;
 use ends::Ends;
 use lines::answer::Reply;
 use lines::line::Line;
 use lines::line::Order;
 use lines::line::Parsed;
+use lines::line::same_list;
 use stream::put_reply;
 use stream::take_line;
 ghost use mathlib.Core.Path.{_≡_};
@@ -65,14 +68,23 @@ fn clear_in(words: &mut [u32; 1024], named: Row, other: Row) -> Worked
     desk::work::clear(words, &mut marks, named, other)
 }
 
-// A command on lists.
+// A command on lists, once 11, 1 and 2 are tested: 3, and then the command.
 fn work_in(words: &mut [u32; 1024], named: Row, other: Row, order: Order) -> Worked
     ensures { λ w. ⌜ (outcome (now (words .exit)) w ≡ unmarking (command (now (words .entry)) noMarks named other order)) × (length (now (words .exit)) ≡ length (now (words .entry))) ⌝ }
 {
-    if order.code == 13 {
+    let code = order.code;
+    let node = order.node;
+    if code == 13 {
         return clear_in(words, named, other);
     }
-    desk::work::work(words, named, other, order)
+    if same_list(order) {
+        return Worked {
+            answer: Answer::Refused(Refusal::SameList),
+            named,
+            other,
+        };
+    }
+    by_code(words, named, other, code, node)
 }
 
 // The audit, with marks of its own, answered.
@@ -123,7 +135,7 @@ fn other_list(line: Parsed) -> usize
     }
 }
 
-// A line on the words of the desk, the ends of its lists, and the rows at those two places.
+// A line that was tested for 11, on the words of the desk, the ends of its lists, and the rows at those two places.
 fn step_rows(
     words: &mut [u32; 1024],
     ends: [Ends; 8],
@@ -164,10 +176,12 @@ fn step_rows(
     }
 }
 
-// What a line leaves of the desk, with its answer. The other list is put back first: where both are one, the named one stands.
+// What a line leaves of the desk, with its answer. 11 is tested, whatever is handed in. The other list is put back first: where both
+// are one, the named one stands.
 pub fn step(mut desk: BatchDesk, line: Parsed) -> BatchDesk
     ensures { λ r. ⌜ keptOf r ≡ batchStep (deskOf desk) line ⌝ }
 {
+    let line = line.tested();
     let l = named_list(line);
     let m = other_list(line);
     let e = desk.ends[l];
@@ -199,7 +213,7 @@ pub struct Ran {
 }
 
 // Runs the desk over the input, from a line that may be begun, with answers from a place on, while there is room. Each line does
-// to the desk what `step` does, where it stands: handed over and back, it would be copied twice a line.
+// to the desk what `step` does, where it stands: handed over and back, it would be copied twice a line. `parse` has tested 11.
 fn run_at(mut desk: BatchDesk, mut line: Line, input: &[u8], out: &mut [u8], at: usize) -> Ran
     ensures { λ r. ⌜ running (now (out .exit)) (keptOf (r .desk)) (r .line) (r .wrote) ≡ runFrom (running (now (out .entry)) (keptOf desk) line at) (now (input .entry)) ⌝ }
 {

@@ -93,6 +93,9 @@ list 63 is list 62 again
 # desk: nodes$; marks$; lists$
 $$$
 left$$ |$$ |$$$
+order$$$$:$$$
+left$$$ |$$$$$ |$$$
+work: nodes$; order$$$$:$ |$$ |$$$
 ";
     let from = text::skip(table, 0, code);
     line(text::part(table, from, text::skip(table, from, 1)), &v);

@@ -17,10 +17,11 @@ use Rattle.audit.specs.Audit.{auditAll}
 use Rattle.lines.specs.declared.line.Order.{Order}
 use Rattle.lines.specs.declared.line.Parsed.{Parsed}
 use Rattle.lines.specs.declared.line.Parsed.the-variants.{Right, Malformed as Wrong}
+use Rattle.lines.specs.Lines.{tested}
 use Rattle.lines.specs.declared.answer.Reply.{Reply}
 use Rattle.desk.specs.declared.Row.{Row}
 use Rattle.desk.specs.declared.Worked.{Worked}
-use Rattle.desk.specs.Work.{row, workOf, clearing}
+use Rattle.desk.specs.Work.{row, onRows, clearing}
 use Rattle.lines.specs.Answers.{reply}
 use Rattle.desk.specs.Reply.{replyTo, replyToAudit, replyUnread}
 
@@ -68,10 +69,10 @@ deskFits d ms = sizesFit (d .words) ms && directoryFits (length (d .lists))
 unfoldable pub listsThere : Desk → Order → Bool
 listsThere d o = ltb (o .list) (length (d .lists)) && ltb (o .other) (length (d .lists))
 
--- A command on lists: clear, or one that follows no chain.
+-- A command on lists, once 11, 1 and 2 are tested: clear, or one that follows no chain.
 unfoldable pub command : List ℕ → List ℕ → Row → Row → Order → Outcome (Marking Worked)
 command ws ms r q o =
-    let w = workOf ws r q o in cond (eqb (o .code) 13) (clearing ws ms r q) (outcome (w .words) (marking ms (w .result)))
+    let w = onRows ws r q o in cond (eqb (o .code) 13) (clearing ws ms r q) (outcome (w .words) (marking ms (w .result)))
 
 -- What a command comes to goes back to the desk: the words, the other list, then the named one; and it is answered.
 unfoldable pub putBack : Desk → Order → Outcome (Marking Worked) → Marking DeskStepped
@@ -89,11 +90,15 @@ audited d ms =
 unfoldable pub unread : Desk → List ℕ → Refusal → Marking DeskStepped
 unread d ms r = marking ms (deskStepped d (replyUnread r))
 
--- One line: 11, 1, the audit, 2, and then the command.
-abbrev pub step : Desk → List ℕ → Parsed → Marking DeskStepped
-step d ms Wrong = unread d ms Malformed
-step d ms (Right o) =
+-- A line that was tested for 11: 1, the audit, 2, and then the command.
+abbrev pub stepTested : Desk → List ℕ → Parsed → Marking DeskStepped
+stepTested d ms Wrong = unread d ms Malformed
+stepTested d ms (Right o) =
     let done = putBack d o (command (d .words) ms (rowAt d (o .list)) (rowAt d (o .other)) o) in
     cond (deskFits d ms)
     (cond (eqb (o .code) 20) (audited d ms) (cond (listsThere d o) done (unread d ms NoSuchList)))
     (unread d ms Size)
+
+-- One line, whoever hands it in: 11 is tested first.
+abbrev pub step : Desk → List ℕ → Parsed → Marking DeskStepped
+step d ms p = stepTested d ms (tested p)

@@ -1,12 +1,14 @@
 -- One command on the lists that it names (document 01, 'Command lines' and 'Edits'): the call that it stands for, and what
 -- becomes of the cursors that the desk keeps.
 use Prim.Native.Nat.{ℕ}
-use mathlib.Core.Bool.{_&&_, cond}
+use mathlib.Core.Bool.{Bool, _&&_, not, cond}
 use mathlib.Core.List.{List}
 use lib.Dec.{eqb}
+use lib.ListN.{length}
 use Rattle.words.specs.declared.names.Node.{Node}
+use Rattle.words.specs.Names.{poolFits}
 use Rattle.words.specs.Pool.{Outcome, outcome}
-use Rattle.answers.specs.declared.Refusal.the-variants.{SameList, Malformed}
+use Rattle.answers.specs.declared.Refusal.the-variants.{Size, SameList, Malformed}
 use Rattle.answers.specs.declared.Answer.{Answer}
 use Rattle.answers.specs.declared.Answer.the-variants.{Refused}
 use Rattle.ends.specs.declared.Ends.{Ends}
@@ -26,7 +28,7 @@ use Rattle.list.specs.Lists.{pushFront, pushBack, popFront, popBack, take, fast
 use Rattle.walk.specs.Marks.{Marking, marking}
 use Rattle.walk.specs.Calls.{clearAll}
 use Rattle.lines.specs.declared.line.Order.{Order}
-use Rattle.lines.specs.Lines.{usesOther}
+use Rattle.lines.specs.Lines.{rightFields, sameList}
 use Rattle.desk.specs.declared.Row.{Row}
 use Rattle.desk.specs.declared.Worked.{Worked}
 
@@ -91,11 +93,19 @@ byCode code ws r q i =
     (outcome ws (worked (Refused Malformed) r q)))))))))))))))))))
 
 -- 3 where both lists are used and are the same; else the command.
+unfoldable pub onRows : List ℕ → Row → Row → Order → Outcome Worked
+onRows ws r q o = cond (sameList o) (outcome ws (worked (Refused SameList) r q)) (byCode (o .code) ws r q (record { 0 = o .node }))
+
+-- The fields are right, and the command follows no chain: any but clear and the audit, which want marks.
+unfoldable pub isWork : Order → Bool
+isWork o = rightFields o && not (eqb (o .code) 13) && not (eqb (o .code) 20)
+
+-- 11 unless it is such a command, 1 unless the pool is within its limit, 3, and then the command.
 unfoldable pub workOf : List ℕ → Row → Row → Order → Outcome Worked
 workOf ws r q o =
-    cond (usesOther (o .code) && eqb (o .list) (o .other))
-    (outcome ws (worked (Refused SameList) r q))
-    (byCode (o .code) ws r q (record { 0 = o .node }))
+    cond (isWork o)
+    (cond (poolFits (length ws)) (onRows ws r q o) (outcome ws (worked (Refused Size) r q)))
+    (outcome ws (worked (Refused Malformed) r q))
 
 -- Clear, with the walk's refusals and marks.
 unfoldable pub clearing : List ℕ → List ℕ → Row → Row → Outcome (Marking Worked)

@@ -8,12 +8,15 @@ use cursor::Edited;
 use cursor::EditedTwo;
 use ends::Ends;
 use lines::line::Order;
+use lines::line::right_fields;
+use lines::line::same_list;
 use list::ListEdited;
 use words::names::Node;
+use words::names::pool_fits;
 ghost use mathlib.Core.Path.{_≡_};
 ghost use Rattle.words.specs.Pool.{outcome};
 ghost use Rattle.walk.specs.Marks.{marking};
-ghost use Rattle.desk.specs.Work.{nulled, atCursor, onList, onBoth, taking, toNull, byCode, workOf, clearing};
+ghost use Rattle.desk.specs.Work.{nulled, atCursor, onList, onBoth, taking, toNull, byCode, isWork, workOf, clearing};
 
 // The list after a call on it as a whole: done, its cursor is null; refused, it is as it was.
 fn nulled(answer: Answer, before: Row, ends: Ends) -> Row
@@ -100,10 +103,12 @@ fn to_null(words: &[u32], named: Row, other: Row) -> Worked
     }
 }
 
-// The command by its code.
-fn by_code(words: &mut [u32], named: Row, other: Row, code: u32, node: Node) -> Worked
-    ensures { λ w. ⌜ outcome (now (words .exit)) w ≡ byCode code (now (words .entry)) named other node ⌝ }
+// The command by its code, with the node field of its line. A code that is none of these is 11. It is not told which lists of a
+// desk it is given, so 3 is the caller's to test.
+pub fn by_code(words: &mut [u32], named: Row, other: Row, code: u32, node: u32) -> Worked
+    ensures { λ w. ⌜ outcome (now (words .exit)) w ≡ byCode code (now (words .entry)) named other (record { 0 = node }) ⌝ }
 {
+    let node = Node(node);
     let e = named.ends;
     let c = named.cursor;
     let o = other.ends;
@@ -134,22 +139,41 @@ fn by_code(words: &mut [u32], named: Row, other: Row, code: u32, node: Node) -> 
     }
 }
 
-// Any command on lists but clear: none of them follows a chain. 3 is tested here, and the rest by the calls.
+// The fields are right, and the command follows no chain.
+fn is_work(order: Order) -> bool
+    ensures { λ r. ⌜ r ≡ isWork order ⌝ }
+{
+    right_fields(order) & (order.code != 13) & (order.code != 20)
+}
+
+// Any command on lists but clear: none of them follows a chain. 11, 1 and 3 are tested here, and the rest by the calls.
 pub fn work(words: &mut [u32], named: Row, other: Row, order: Order) -> Worked
     ensures { λ w. ⌜ outcome (now (words .exit)) w ≡ workOf (now (words .entry)) named other order ⌝ }
 {
     let code = order.code;
-    let list = order.list;
-    let second = order.other;
     let node = order.node;
-    if lines::line::uses_other(code) & (list == second) {
+    if !is_work(order) {
+        return Worked {
+            answer: Answer::Refused(Refusal::Malformed),
+            named,
+            other,
+        };
+    }
+    if !pool_fits(words.len()) {
+        return Worked {
+            answer: Answer::Refused(Refusal::Size),
+            named,
+            other,
+        };
+    }
+    if same_list(order) {
         return Worked {
             answer: Answer::Refused(Refusal::SameList),
             named,
             other,
         };
     }
-    by_code(words, named, other, code, Node(node))
+    by_code(words, named, other, code, node)
 }
 
 // Clear, which walks the list and wants marks for it.

@@ -5,6 +5,7 @@
 // expected output was worked out from the paper that sets the rules, by a model of its own, and not from a run.
 mod args;
 mod changes;
+mod directory;
 mod line;
 mod marks;
 mod plain;

@@ -1,6 +1,8 @@
-// The calls that are lent marks: walk and clear, the step of one list, the audit over two slices; from 54 of the table.
+// The calls that are lent marks: walk and clear, the step of one list, the audit over two slices and over records; from 54 of
+// the table.
 use crate::args;
 use crate::args::Args;
+use crate::directory;
 use crate::line;
 use crate::line::number;
 use crate::values;
@@ -77,6 +79,7 @@ pub(crate) fn call(
     match code {
         55 => clear(words, marks, a.ends),
         58 => audited(line, words, marks),
+        59 => directory::audited(line, words, marks),
         _ => walked(code, words, marks, a.ends, a.node.0),
     }
 }

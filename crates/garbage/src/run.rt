@@ -1,7 +1,7 @@
 // A case: each call of its kind, on a fresh pool and fresh marks. A call's number is its line in the table of `shown`:
 // from 0 tests, moves and front at a cursor or of a list, 10 reading steps, 11 places, 15 iterators, 18 a read, 19 what is
 // lent nothing; from 33 changing steps, 39 edits, 44 splices and splits, 48 lists; from 54 walk and clear, 56 marks, 58 the
-// audit.
+// audit, over two slices and over records.
 use crate::args;
 use crate::changes;
 use crate::line;
@@ -90,7 +90,8 @@ new link#; empty ends##; turned##; either##/
   clear#@ |## |% |=/
   walk_list?# |%/
   zero_marks%/
-  audit#, list#, on lists#, stranded# |%/  count_nodes##/";
+  audit#, list#, on lists#, stranded# |%/  count_nodes##/
+  audit_records#, list#, on lists#, stranded# |%/";
     let from = line::skip(table, 0, b'\n', code);
     show::line(
         line::part(table, from, line::skip(table, from, b'\n', 1)),
@@ -125,9 +126,9 @@ fn turn(code: usize, letter: u8, line: &[u8]) {
 
 // Every call by its number, with the letter of its kind.
 pub(crate) fn run(line: &[u8]) {
-    let letters = b"feeeeellllsppaaiiirn0000000000000ssssssfeeefeeefllllllllmmd";
+    let letters = b"feeeeellllsppaaiiirn0000000000000ssssssfeeefeeefllllllllmmdd";
     let mut code = 0;
-    while code < 59 {
+    while code < 60 {
         turn(code, letters[code], line);
         code += 1;
     }

@@ -20,7 +20,7 @@ use Rattle.audit.specs.Audit.{bit}
 use Rattle.lines.specs.declared.line.Order.{Order}
 use Rattle.lines.specs.declared.line.Parsed.{Parsed}
 use Rattle.lines.specs.declared.line.Parsed.the-variants.{Right, Malformed as Wrong}
-use Rattle.lines.specs.Lines.{usesOther}
+use Rattle.lines.specs.Lines.{sameList, tested}
 use Rattle.lines.specs.declared.answer.Reply.{Reply}
 use Rattle.lines.specs.Answers.{reply}
 use Rattle.desk.specs.Reply.{noNode, shown, replyUnread}
@@ -123,7 +123,7 @@ plainByCode code n h z y i =
 unfoldable pub plainCommand : ℕ → History → Order → Place → Place → PlainWorked
 plainCommand n h o z y =
     cond (eqb (o .code) 13) (plainWorked Done (atNull []) y (h .stranded))
-    (cond (usesOther (o .code) && eqb (o .list) (o .other)) (plainWorked (Refused SameList) z y (h .stranded))
+    (cond (sameList o) (plainWorked (Refused SameList) z y (h .stranded))
     (plainByCode (o .code) n h z y (o .node)))
 
 -- ---- one line
@@ -148,11 +148,15 @@ plainReplyTo t = reply (answerNumber (t .answer)) (under (t .named)) (shown (han
 unfoldable pub plainPutBack : History → Order → PlainWorked → PlainStepped
 plainPutBack h o t = plainStepped (record { places = set (set (h .places) (o .other) (t .other)) (o .list) (t .named); stranded = t .stranded }) (plainReplyTo t)
 
--- One line: 11, the audit, 2, and then the command.
-abbrev pub plainStep : ℕ → History → Parsed → PlainStepped
-plainStep n h Wrong = plainStepped h (replyUnread Malformed)
-plainStep n h (Right o) =
+-- A line that was tested for 11: the audit, 2, and then the command.
+abbrev pub plainStepTested : ℕ → History → Parsed → PlainStepped
+plainStepTested n h Wrong = plainStepped h (replyUnread Malformed)
+plainStepTested n h (Right o) =
     let k = length (h .places) in
     cond (eqb (o .code) 20) (plainStepped h (reply 0 (size (h .places)) (length (h .stranded))))
     (cond (ltb (o .list) k && ltb (o .other) k) (plainPutBack h o (plainCommand n h o (placeAt h (o .list)) (placeAt h (o .other))))
     (plainStepped h (replyUnread NoSuchList)))
+
+-- One line, whoever hands it in: 11 is tested first.
+abbrev pub plainStep : ℕ → History → Parsed → PlainStepped
+plainStep n h p = plainStepTested n h (tested p)

@@ -1,10 +1,13 @@
 // The lent desk: words, lists and marks are the caller's slices, of any length. One line a call.
+use answers::Answer;
 use answers::Refusal;
 use desk::Row;
 use desk::Worked;
+use desk::work::by_code;
 use lines::answer::Reply;
 use lines::line::Order;
 use lines::line::Parsed;
+use lines::line::same_list;
 use replies::to_audit;
 use replies::to_work;
 use replies::unread;
@@ -24,7 +27,7 @@ ghost use Rattle.lines.specs.Lines.{lineOf};
 ghost use Rattle.desk.specs.Step.{command};
 ghost use Rattle.rows.specs.Rows.{rowsOf};
 ghost use Rattle.lent_desk.specs.Lent.{lent, lentStepped, lentStep};
-ghost use Rattle.lent_desk.specs.Steps.{auditReply, commandStep};
+ghost use Rattle.lent_desk.specs.Steps.{auditReply, commandStep, lentTested};
 
 // 1: so many nodes, marks and lists are within the limits.
 fn sizes_fit(nodes: usize, marks: usize, lists: usize) -> bool
@@ -51,15 +54,23 @@ fn audit_lists(words: &[u32], lists: &[u32], marks: &mut [u8]) -> Reply
     to_audit(audit::audit(words, &heads[0..k], &tails[0..k], marks))
 }
 
-// A command on the lists that it names.
+// A command on the lists that it names, once 11, 1 and 2 are tested: 3, and then the command.
 fn do_command(words: &mut [u32], marks: &mut [u8], named: Row, other: Row, order: Order) -> Worked
     ensures { λ r. ⌜ outcome (now (words .exit)) (marking (now (marks .exit)) r) ≡ command (now (words .entry)) (now (marks .entry)) named other order ⌝ }
 {
     let code = order.code;
+    let node = order.node;
     if code == 13 {
         return desk::work::clear(words, marks, named, other);
     }
-    desk::work::work(words, named, other, order)
+    if same_list(order) {
+        return Worked {
+            answer: Answer::Refused(Refusal::SameList),
+            named,
+            other,
+        };
+    }
+    by_code(words, named, other, code, node)
 }
 
 // A command, once its lists are there: they are read, it is done, and the other list is stored, then the named one.
@@ -77,9 +88,9 @@ fn step_command(words: &mut [u32], lists: &mut [u32], marks: &mut [u8], order: O
     to_work(n, w)
 }
 
-// A line that is right: 1, the audit, 2, and then the command.
+// A line that was tested for 11: 1, the audit, 2, and then the command.
 fn step_order(words: &mut [u32], lists: &mut [u32], marks: &mut [u8], order: Order) -> Reply
-    ensures { λ r. ⌜ lentStepped (lent (now (words .exit)) (now (lists .exit)) (now (marks .exit))) r ≡ lentStep (lent (now (words .entry)) (now (lists .entry)) (now (marks .entry))) (Right order) ⌝ }
+    ensures { λ r. ⌜ lentStepped (lent (now (words .exit)) (now (lists .exit)) (now (marks .exit))) r ≡ lentTested (lent (now (words .entry)) (now (lists .entry)) (now (marks .entry))) (Right order) ⌝ }
 {
     let k = row_count(lists);
     if !sizes_fit(words.len(), marks.len(), k) {
@@ -95,10 +106,11 @@ fn step_order(words: &mut [u32], lists: &mut [u32], marks: &mut [u8], order: Ord
     step_command(words, lists, marks, order)
 }
 
-// One line, as it was read.
+// One line, as it was read, or an order that is handed in: 11 is tested, whatever it is.
 pub fn step(words: &mut [u32], lists: &mut [u32], marks: &mut [u8], line: Parsed) -> Reply
     ensures { λ r. ⌜ lentStepped (lent (now (words .exit)) (now (lists .exit)) (now (marks .exit))) r ≡ lentStep (lent (now (words .entry)) (now (lists .entry)) (now (marks .entry))) line ⌝ }
 {
+    let line = line.tested();
     let Parsed::Right(order) = line else {
         return unread(Refusal::Malformed);
     };

@@ -1,4 +1,5 @@
 -- The laws of lines.
 pub mod Both
 pub mod Lines
+pub mod Tested
 pub mod Answers

@@ -46,6 +46,16 @@ orderOf v =
 abbrev pub ifRight : Order → Parsed
 ifRight o = cond (rightFields o) (Right o) Malformed
 
+-- 11 for an order with an unknown command, or with something in a field that its command does not use, whoever hands it in. A
+-- line that was read stays what it was (a law). A list or a node that is only too great is no 11: 2 or 7 says so.
+unfoldable pub tested : Parsed → Parsed
+tested (Right o) = ifRight o
+tested Malformed = Malformed
+
+-- 3: both lists are used, and they are the same.
+abbrev pub sameList : Order → Bool
+sameList o = usesOther (o .code) && eqb (o .list) (o .other)
+
 -- What a whole line says, from its bytes without the line feed.
 unfoldable pub lineOf : List ℕ → Parsed
 lineOf bs = cond (eqb (length bs) 10 && allDigits bs) (ifRight (orderOf (valueFrom 0 bs))) Malformed

@@ -1,6 +1,6 @@
 // A command line, read one byte at a time, so that it may come in pieces.
 ghost use mathlib.Core.Path.{_≡_};
-ghost use Rattle.lines.specs.Lines.{digitOf, fresh, fed, fedAll, usesNode, usesOther, usesList, rightFields, lineOf, parsed};
+ghost use Rattle.lines.specs.Lines.{digitOf, fresh, fed, fedAll, usesNode, usesOther, usesList, rightFields, sameList, lineOf, parsed};
 
 // What a line says: command, list, other list, node.
 pub struct Order {
@@ -57,7 +57,7 @@ fn uses_list(code: u32) -> bool
 }
 
 // The command is known, and every field that it does not use is zero.
-fn right_fields(o: Order) -> bool
+pub fn right_fields(o: Order) -> bool
     ensures { λ r. ⌜ r ≡ rightFields o ⌝ }
 {
     (1 <= o.code)
@@ -65,6 +65,28 @@ fn right_fields(o: Order) -> bool
         & (uses_list(o.code) | (o.list == 0))
         & (uses_other(o.code) | (o.other == 0))
         & (uses_node(o.code) | (o.node == 0))
+}
+
+// 3: the command uses both lists, and they are the same.
+pub fn same_list(o: Order) -> bool
+    ensures { λ r. ⌜ r ≡ sameList o ⌝ }
+{
+    uses_other(o.code) & (o.list == o.other)
+}
+
+impl Parsed {
+    // 11, for an order that is handed in; a line that was read stays what it was.
+    pub fn tested(self) -> Parsed
+        ensures { λ r. ⌜ r ≡ Rattle.lines.specs.Lines.tested self ⌝ }
+    {
+        let Parsed::Right(o) = self else {
+            return Parsed::Malformed;
+        };
+        if !right_fields(o) {
+            return Parsed::Malformed;
+        }
+        Parsed::Right(o)
+    }
 }
 
 impl Line {
@@ -119,10 +141,7 @@ impl Line {
             other: (v / 0x1_0000 % 256) as u32,
             node: (v % 0x1_0000) as u32,
         };
-        if !right_fields(o) {
-            return Parsed::Malformed;
-        }
-        Parsed::Right(o)
+        Parsed::Right(o).tested()
     }
 }
 

@@ -1,2 +1,3 @@
 -- What must be believed of places by node and claimed neighbour.
 pub mod Places
+pub mod Plain

@@ -11,8 +11,11 @@ pub record Changes (names ws ws' : List ℕ) : Type 0 where
   pub long : length ws' ≡ length ws
   pub same : (i : ℕ) → Off (name i) names → getD ws' i 0 ≡ getD ws i 0
 
--- At most four words differ, and the pool is as long as it was.
-pub record AtMostFour (ws ws' : List ℕ) : Type 0 where
+-- At most m words differ, and the pool is as long as it was.
+pub record AtMost (m : ℕ) (ws ws' : List ℕ) : Type 0 where
   pub names : List ℕ
-  pub few : length names ≤ 4
+  pub few : length names ≤ m
   pub changes : Changes names ws ws'
+
+abbrev pub AtMostFour : List ℕ → List ℕ → Type 0
+AtMostFour ws ws' = AtMost 4 ws ws'

@@ -21,6 +21,7 @@ use Rattle.audit.specs.Audit.{auditAll}
 use Rattle.lines.specs.declared.line.Order.{Order}
 use Rattle.lines.specs.declared.line.Parsed.{Parsed}
 use Rattle.lines.specs.declared.line.Parsed.the-variants.{Right, Malformed as Wrong}
+use Rattle.lines.specs.Lines.{tested}
 use Rattle.lines.proofs.Laws.Both.{both}
 use Rattle.lines.specs.declared.answer.Reply.{Reply}
 use Rattle.desk.specs.declared.Row.{Row}
@@ -30,7 +31,7 @@ use Rattle.desk.specs.Reply.{replyTo, replyToAudit, replyUnread}
 use Rattle.desk.specs.Step.{Desk, DeskStepped, deskStepped, freshRow, rowAt, putRow, putWords, endsOfAll, deskFits, listsThere, command, putBack, audited, unread}
 use Rattle.batch_desk.specs.declared.BatchDesk.{BatchDesk}
 use Rattle.batch_desk.specs.Step.{zipRows, deskOf, keptOf, noMarks, batchStep}
-use Rattle.batch_desk.specs.Steps.{unmarking, rowsStepped, namedList, otherList, answeredBy, stepRows}
+use Rattle.batch_desk.specs.Steps.{unmarking, rowsStepped, namedList, otherList, answeredBy, stepRows, batchTested}
 use Rattle.batch_desk.specs.declared.RowsStepped.{RowsStepped}
 use Rattle.batch_desk.proofs.Laws.Unique.{zip-ends}
 
@@ -53,13 +54,18 @@ within l m h = go (leb 8 l) (leb 8 m) refl refl h
 
 -- the step of a line that is right, by its three tests
 by-tests : (d : Desk) (o : Order) (t u v : Bool) → deskFits d noMarks ≡ t → eqb (o .code) 20 ≡ u → listsThere d o ≡ v
-    → batchStep d (Right o)
+    → batchTested d (Right o)
     ≡ cond t
     (cond u (audited d noMarks)
     (cond v (putBack d o (command (d .words) noMarks (rowAt d (o .list)) (rowAt d (o .other)) o)) (unread d noMarks NoSuchList)))
     (unread d noMarks Size) .result
-unfolding batchStep
+unfolding batchTested
 by-tests d o t u v e f g = rw (← e, ← f, ← g)
+
+-- 11 is tested first
+pub tested-first : (d : Desk) (p q : Parsed) (s : DeskStepped) → q ≡ tested p → s ≡ batchTested d q → s ≡ batchStep d p
+unfolding batchTested batchStep
+tested-first d p q s e h = h ∙ ap (batchTested d) e
 
 -- an array of a struct has the length that its type says
 pub known : {A B : Type 0} (f : A → B) (xs : List A) (n : ℕ) → length (map f xs) ≡ n → length xs ≡ n
@@ -138,7 +144,7 @@ module _ (d : Desk) (hw : length (d .words) ≡ 1024) (he : length (d .lists) �
       (cond v
       (answeredBy (command (d .words) noMarks (rowAt d l) (rowAt d m) o))
       (outcome (d .words) (rowsStepped (rowAt d l) (rowAt d m) (replyUnread NoSuchList)))))
-      ≡ batchStep d (Right o))
+      ≡ batchTested d (Right o))
   unfolding audited unread
   backed-right o true v e f = unchanged d (o .list % 8) (o .other % 8) _ ∙ sym (by-tests d o true true _ fits e refl)
   backed-right o false false e f = unchanged d (o .list % 8) (o .other % 8) _ ∙ sym (by-tests d o true false false fits e (listed o false f))
@@ -147,8 +153,8 @@ module _ (d : Desk) (hw : length (d .words) ≡ 1024) (he : length (d .lists) �
       rw (mod-eq-of-lt (ltb-true (o .list) 8 (t .0)), mod-eq-of-lt (ltb-true (o .other) 8 (t .1)))
       (command-back o _ ∙ sym (by-tests d o true false true fits e (listed o true f)))
 
-  backed-is : (p : Parsed) → backed d (namedList p) (otherList p) (stepRows (d .words) (endsOfAll (d .lists)) (rowAt d (namedList p)) (rowAt d (otherList p)) p) ≡ batchStep d p
-  unfolding batchStep unread
+  backed-is : (p : Parsed) → backed d (namedList p) (otherList p) (stepRows (d .words) (endsOfAll (d .lists)) (rowAt d (namedList p)) (rowAt d (otherList p)) p) ≡ batchTested d p
+  unfolding batchTested unread
   backed-is Wrong = unchanged d 0 0 (replyUnread Malformed)
   backed-is (Right o) = backed-right o _ _ refl refl
 
@@ -189,7 +195,7 @@ putIn b l m ws r =
 
 module _ (b : BatchDesk) (hw : length (b .words) ≡ 1024) (he : length (b .ends) ≡ 8) (hc : length (b .cursors) ≡ 8) where
   pub back : (p : Parsed) (l m : ℕ) (ws : List ℕ) (r : RowsStepped) → l ≡ namedList p → m ≡ otherList p
-      → outcome ws r ≡ stepRows (b .words) (b .ends) (rowIn b l) (rowIn b m) p → keptOf (putIn b l m ws r) ≡ batchStep (deskOf b) p
+      → outcome ws r ≡ stepRows (b .words) (b .ends) (rowIn b l) (rowIn b m) p → keptOf (putIn b l m ws r) ≡ batchTested (deskOf b) p
   back p l m ws r hl hm h =
       let same : length (b .ends) ≡ length (b .cursors) = he ∙ sym hc in
       let k : outcome ws r ≡ stepRows (b .words) (endsOfAll (zipRows (b .ends) (b .cursors))) (rowAt (deskOf b) l) (rowAt (deskOf b) m) p =

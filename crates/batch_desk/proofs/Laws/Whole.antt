@@ -24,7 +24,7 @@ use Rattle.batch_desk.proofs.Laws.Take.{run-feed, run-other}
 
 -- ---- a line that is begun has a digit, or is malformed
 
-fed-counts : (l : Line) (b : ℕ) → fed l b .count ≡ 0 → ⊥
+pub fed-counts : (l : Line) (b : ℕ) → fed l b .count ≡ 0 → ⊥
 unfolding fed
 fed-counts l b h = go (ltb (l .count) 10 && ltb (digitOf b) 16) h
   where
@@ -32,12 +32,12 @@ fed-counts l b h = go (ltb (l .count) 10 && ltb (digitOf b) 16) h
     go true e = omega arith
     go false e = omega arith
 
-all-counts : (bs : List ℕ) (l : Line) → (l .count ≡ 0 → ⊥) → fedAll l bs .count ≡ 0 → ⊥
+pub all-counts : (bs : List ℕ) (l : Line) → (l .count ≡ 0 → ⊥) → fedAll l bs .count ≡ 0 → ⊥
 unfolding fedAll
 all-counts [] l h e = h e
 all-counts (b ∷ bs) l h e = all-counts bs (fed l b) (fed-counts l b) e
 
-fed-last : (bs : List ℕ) (l : Line) (b : ℕ) → fedAll l (bs ++ b ∷ []) ≡ fed (fedAll l bs) b
+pub fed-last : (bs : List ℕ) (l : Line) (b : ℕ) → fedAll l (bs ++ b ∷ []) ≡ fed (fedAll l bs) b
 unfolding fedAll
 fed-last [] l b = refl
 fed-last (a ∷ bs) l b = fed-last bs (fed l a) b
@@ -49,7 +49,7 @@ unfolding answerLine
 bytes-length r = refl
 
 -- after the bytes that are written, and with room for another answer
-ended-room : (d : DeskStepped) (l : Line) (front rest : List ℕ) → 11 ≤ length rest
+pub ended-room : (d : DeskStepped) (l : Line) (front rest : List ℕ) → 11 ≤ length rest
     → ended (running (front ++ rest) d l (length front))
     ≡ running ((front ++ bytesOf (batchStep (d .desk) (parsed l) .reply)) ++ drop 11 rest) (batchStep (d .desk) (parsed l)) fresh (length front + 11)
 unfolding ended placedAt
@@ -78,14 +78,14 @@ one d line front rest ls w a =
       wrote = a .wrote ∙ simp length-append (omega (arith, bytes-length (batchStep (d .desk) (lineOf line) .reply)));
     }
 
-more-length : (front : List ℕ) (r : Reply) → length (front ++ bytesOf r) ≡ length front + 11
+pub more-length : (front : List ℕ) (r : Reply) → length (front ++ bytesOf r) ≡ length front + 11
 more-length front r = simp length-append (omega (arith, bytes-length r))
 
-lines-none : linesFrom [] [] ≡ []
+pub lines-none : linesFrom [] [] ≡ []
 unfolding linesFrom
 lines-none = refl
 
-lines-last : (b : ℕ) (bs : List ℕ) → linesFrom (b ∷ bs) [] ≡ (b ∷ bs) ∷ []
+pub lines-last : (b : ℕ) (bs : List ℕ) → linesFrom (b ∷ bs) [] ≡ (b ∷ bs) ∷ []
 unfolding linesFrom
 lines-last b bs = rw (ne-eqb (suc (length bs)) 0 (λ e. omega arith))
 
@@ -110,11 +110,11 @@ last (b ∷ bs) d front rest h =
     rw (lines-last b bs, ne-eqb (fedAll (fed fresh b) bs .count) 0 (all-counts bs (fed fresh b) (fed-counts fresh b)))
     (then d (b ∷ bs) front rest [] (λ (s : Running). s) (omega arith) (none e fresh (front ++ bytesOf (e .reply)) (drop 11 rest)))
 
-lines-feed : (line : List ℕ) (b : ℕ) (bs : List ℕ) → eqb b 10 ≡ true → linesFrom line (b ∷ bs) ≡ line ∷ linesFrom [] bs
+pub lines-feed : (line : List ℕ) (b : ℕ) (bs : List ℕ) → eqb b 10 ≡ true → linesFrom line (b ∷ bs) ≡ line ∷ linesFrom [] bs
 unfolding linesFrom
 lines-feed line b bs e = rw e
 
-lines-other : (line : List ℕ) (b : ℕ) (bs : List ℕ) → eqb b 10 ≡ false → linesFrom line (b ∷ bs) ≡ linesFrom (line ++ b ∷ []) bs
+pub lines-other : (line : List ℕ) (b : ℕ) (bs : List ℕ) → eqb b 10 ≡ false → linesFrom line (b ∷ bs) ≡ linesFrom (line ++ b ∷ []) bs
 unfolding linesFrom
 lines-other line b bs e = rw e
 

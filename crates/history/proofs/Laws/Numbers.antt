@@ -17,9 +17,9 @@ use Rattle.split.specs.Plain.{plainSplitAfter, plainSplitBefore}
 use Rattle.lines.specs.declared.line.Order.{Order}
 use Rattle.lines.specs.declared.line.Parsed.{Parsed}
 use Rattle.lines.specs.declared.line.Parsed.the-variants.{Right, Malformed as Wrong}
-use Rattle.lines.specs.Lines.{usesOther}
+use Rattle.lines.specs.Lines.{sameList, tested}
 use Rattle.desk.specs.Reply.{replyUnread}
-use Rattle.history.specs.History.{History, PlainWorked, PlainStepped, isNone, isHeld, placeAt, atPlace, onSequence, onTwo, plainTake, plainByCode, plainCommand, plainReplyTo, plainPutBack, plainStep}
+use Rattle.history.specs.History.{History, PlainWorked, PlainStepped, isNone, isHeld, placeAt, atPlace, onSequence, onTwo, plainTake, plainByCode, plainCommand, plainReplyTo, plainPutBack, plainStepTested, plainStep}
 use Rattle.history.specs.Runs.{neverAnswered}
 
 -- an answer with another number
@@ -124,15 +124,18 @@ own-by-code code n h z y i =
 own-command : (n : ℕ) (h : History) (o : Order) (z y : Place) → Own (plainCommand n h o z y .answer)
 unfolding plainCommand neverAnswered
 own-command n h o z y =
-    pick (eqb (o .code) 13) _ _ refl (pick (usesOther (o .code) && eqb (o .list) (o .other)) _ _ refl (own-by-code (o .code) n h z y (o .node)))
+    pick (eqb (o .code) 13) _ _ refl (pick (sameList o) _ _ refl (own-by-code (o .code) n h z y (o .node)))
 
 choose : (c : Bool) (t t' : PlainStepped) → neverAnswered (t .reply .number) ≡ false → neverAnswered (t' .reply .number) ≡ false → neverAnswered (cond c t t' .reply .number) ≡ false
 choose true t t' p q = p
 choose false t t' p q = q
 
-pub never-answered : (n : ℕ) (h : History) (p : Parsed) → neverAnswered (plainStep n h p .reply .number) ≡ false
+tested-answered : (n : ℕ) (h : History) (p : Parsed) → neverAnswered (plainStepTested n h p .reply .number) ≡ false
 unfolding neverAnswered replyUnread plainPutBack plainReplyTo
-never-answered n h Wrong = refl
-never-answered n h (Right o) =
+tested-answered n h Wrong = refl
+tested-answered n h (Right o) =
     choose (eqb (o .code) 20) _ _ refl
     (choose (ltb (o .list) (length (h .places)) && ltb (o .other) (length (h .places))) _ _ (own-command n h o (placeAt h (o .list)) (placeAt h (o .other))) refl)
+
+pub never-answered : (n : ℕ) (h : History) (p : Parsed) → neverAnswered (plainStep n h p .reply .number) ≡ false
+never-answered n h p = tested-answered n h (tested p)

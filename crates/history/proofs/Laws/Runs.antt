@@ -11,11 +11,11 @@ use Rattle.cursor.specs.Plain.{Place, atNull}
 use Rattle.words.specs.Names.{directoryLimit}
 use Rattle.lines.specs.declared.line.Parsed.{Parsed}
 use Rattle.lines.specs.declared.line.Parsed.the-variants.{Right, Malformed as Wrong}
-use Rattle.lines.specs.Lines.{lineOf}
+use Rattle.lines.specs.Lines.{lineOf, tested}
 use Rattle.lines.specs.declared.answer.Reply.{Reply}
 use Rattle.desk.specs.declared.Row.{Row}
 use Rattle.desk.specs.Step.{Desk, freshRow, freshDesk, step}
-use Rattle.history.specs.History.{History, PlainStepped, times, onLists, held, isHeld, start, plainPutBack, plainStep}
+use Rattle.history.specs.History.{History, PlainStepped, times, onLists, held, isHeld, start, plainPutBack, plainStepTested, plainStep}
 use Rattle.history.specs.Follows.{Agrees, Follows}
 use Rattle.history.specs.Runs.{MarkedLine, AllMarked, deskAfter, historyAfter, plainAnswers, answerAll}
 use Rattle.history.proofs.Laws.Commands.{empty-sound}
@@ -60,13 +60,16 @@ either : (c : Bool) (t t' : PlainStepped) (v : ℕ) → length (t .history .plac
 either true t t' v p q = p
 either false t t' v p q = q
 
-pub step-lists : (n : ℕ) (h : History) (p : Parsed) → length (plainStep n h p .history .places) ≡ length (h .places)
+tested-lists : (n : ℕ) (h : History) (p : Parsed) → length (plainStepTested n h p .history .places) ≡ length (h .places)
 unfolding plainPutBack
-step-lists n h Wrong = refl
-step-lists n h (Right o) =
+tested-lists n h Wrong = refl
+tested-lists n h (Right o) =
     either (eqb (o .code) 20) _ _ (length (h .places)) refl
     (either (ltb (o .list) (length (h .places)) && ltb (o .other) (length (h .places))) _ _ (length (h .places))
     (length-set (set (h .places) (o .other) _) (o .list) _ ∙ length-set (h .places) (o .other) _) refl)
+
+pub step-lists : (n : ℕ) (h : History) (p : Parsed) → length (plainStep n h p .history .places) ≡ length (h .places)
+step-lists n h p = tested-lists n h (tested p)
 
 -- ---- after any lines
 

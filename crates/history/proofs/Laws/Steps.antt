@@ -29,15 +29,16 @@ use Rattle.walk.proofs.Laws.Calls.{sizes-fit}
 use Rattle.lines.specs.declared.line.Order.{Order}
 use Rattle.lines.specs.declared.line.Parsed.{Parsed}
 use Rattle.lines.specs.declared.line.Parsed.the-variants.{Right, Malformed as Wrong}
-use Rattle.lines.specs.Lines.{usesOther}
+use Rattle.lines.specs.Lines.{rightFields, sameList, tested}
+use Rattle.lines.proofs.Laws.Tested.{tested-right, tested-wrong, tested-malformed}
 use Rattle.lines.specs.declared.answer.Reply.{Reply}
 use Rattle.desk.specs.declared.Row.{Row}
 use Rattle.desk.specs.declared.Worked.{Worked}
-use Rattle.desk.specs.Work.{row, worked, byCode, workOf, clearing}
+use Rattle.desk.specs.Work.{row, worked, byCode, onRows, clearing}
 use Rattle.lines.specs.Answers.{reply}
 use Rattle.desk.specs.Reply.{shown, replyTo, replyUnread}
-use Rattle.desk.specs.Step.{Desk, DeskStepped, deskStepped, rowAt, deskFits, listsThere, command, putBack, audited, unread, step}
-use Rattle.history.specs.History.{History, PlainWorked, PlainStepped, plainWorked, plainStepped, placeAt, times, size, under, plainReplyTo, plainByCode, plainCommand, plainPutBack, plainStep}
+use Rattle.desk.specs.Step.{Desk, DeskStepped, deskStepped, rowAt, deskFits, listsThere, command, putBack, audited, unread, stepTested, step}
+use Rattle.history.specs.History.{History, PlainWorked, PlainStepped, plainWorked, plainStepped, placeAt, times, size, under, plainReplyTo, plainByCode, plainCommand, plainPutBack, plainStepTested, plainStep}
 use Rattle.history.specs.Follows.{Agrees, Follows, isClear, isReversal}
 use Rattle.history.proofs.Laws.Agrees.{desk', history'}
 use Rattle.history.proofs.Laws.Comes.{Comes, stays}
@@ -121,18 +122,18 @@ module _ (n : ℕ) (d : Desk) (ms : List ℕ) (h : History) (g : Agrees n d h) (
     turned-words r q i e = rw (eqb-true (o .code) 11 e)
 
     works : Follows n d (Right o)
-        (putBack d o (let w = workOf (d .words) (rowAt d (o .list)) (rowAt d (o .other)) o in outcome (w .words) (marking ms (w .result))) .result)
-        (plainPutBack h o (cond (usesOther (o .code) && eqb (o .list) (o .other)) (plainWorked (Refused SameList) (placeAt h (o .list)) (placeAt h (o .other)) (h .stranded))
+        (putBack d o (let w = onRows (d .words) (rowAt d (o .list)) (rowAt d (o .other)) o in outcome (w .words) (marking ms (w .result))) .result)
+        (plainPutBack h o (cond (sameList o) (plainWorked (Refused SameList) (placeAt h (o .list)) (placeAt h (o .other)) (h .stranded))
         (plainByCode (o .code) n h (placeAt h (o .list)) (placeAt h (o .other)) (o .node))))
-    unfolding workOf
-    works = go (usesOther (o .code) && eqb (o .list) (o .other)) refl
+    unfolding onRows
+    works = go (sameList o) refl
       where
         i : Node
         i = record { 0 = o .node }
 
-        go : (v : Bool) → (usesOther (o .code) && eqb (o .list) (o .other)) ≡ v → Follows n d (Right o)
-            (putBack d o (let w = workOf (d .words) (rowAt d (o .list)) (rowAt d (o .other)) o in outcome (w .words) (marking ms (w .result))) .result)
-            (plainPutBack h o (cond (usesOther (o .code) && eqb (o .list) (o .other)) (plainWorked (Refused SameList) (placeAt h (o .list)) (placeAt h (o .other)) (h .stranded))
+        go : (v : Bool) → sameList o ≡ v → Follows n d (Right o)
+            (putBack d o (let w = onRows (d .words) (rowAt d (o .list)) (rowAt d (o .other)) o in outcome (w .words) (marking ms (w .result))) .result)
+            (plainPutBack h o (cond (sameList o) (plainWorked (Refused SameList) (placeAt h (o .list)) (placeAt h (o .other)) (h .stranded))
             (plainByCode (o .code) n h (placeAt h (o .list)) (placeAt h (o .other)) (o .node))))
         go true e =
             rw e
@@ -174,13 +175,23 @@ module _ (n : ℕ) (d : Desk) (ms : List ℕ) (h : History) (g : Agrees n d h) (
   pick p true x x' t t' u v = u refl
   pick p false x x' t t' u v = v refl
 
-  pub step-follows : (p : Parsed) → Follows n d p (step d ms p .result) (plainStep n h p)
+  -- once it was tested for 11
+  right-follows : (p : Parsed) → Follows n d p (stepTested d ms p .result) (plainStepTested n h p)
   unfolding unread
-  step-follows Wrong = quiet Wrong (replyUnread Malformed)
-  step-follows (Right o) =
+  right-follows Wrong = quiet Wrong (replyUnread Malformed)
+  right-follows (Right o) =
       rw (fits, there o)
       (pick (Right o) (eqb (o .code) 20) _ _ _ _ (λ e. audits (Right o))
       (λ e1. pick (Right o) (ltb (o .list) (length (h .places)) && ltb (o .other) (length (h .places))) _ _ _ _
       (λ e. let k = both (ltb (o .list) (length (h .places))) (ltb (o .other) (length (h .places))) e in
       commands o (ltb-true (o .list) (length (h .places)) (k .0)) (ltb-true (o .other) (length (h .places)) (k .1)))
       (λ e. quiet (Right o) (replyUnread NoSuchList))))
+
+  pub step-follows : (p : Parsed) → Follows n d p (step d ms p .result) (plainStep n h p)
+  unfolding unread
+  step-follows Wrong = rw tested-malformed (quiet Wrong (replyUnread Malformed))
+  step-follows (Right o) = go (rightFields o) refl
+    where
+      go : (t : Bool) → rightFields o ≡ t → Follows n d (Right o) (step d ms (Right o) .result) (plainStep n h (Right o))
+      go true e = rw (tested-right o e) (right-follows (Right o))
+      go false e = rw (tested-wrong o e) (quiet (Right o) (replyUnread Malformed))

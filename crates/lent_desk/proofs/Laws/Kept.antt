@@ -8,8 +8,9 @@ use lib.ListN.{length, set, length-set}
 use Rattle.walk.specs.Marks.{Marking}
 use Rattle.lines.specs.declared.line.Parsed.{Parsed}
 use Rattle.lines.specs.declared.line.Parsed.the-variants.{Right, Malformed as Wrong}
+use Rattle.lines.specs.Lines.{tested}
 use Rattle.desk.specs.declared.Row.{Row}
-use Rattle.desk.specs.Step.{Desk, DeskStepped, deskFits, listsThere, putBack, audited, unread, step}
+use Rattle.desk.specs.Step.{Desk, DeskStepped, deskFits, listsThere, putBack, audited, unread, stepTested, step}
 use Rattle.rows.proofs.Laws.Rows.{rows-laid}
 use Rattle.lent_desk.specs.Lent.{Lent, deskOf, leftBy, lentStep}
 
@@ -21,7 +22,7 @@ either : (c : Bool) (x y : Marking DeskStepped) (n : ℕ) → many x ≡ n → m
 either true x y n p q = p
 either false x y n p q = q
 
-step-count : (d : Desk) (ms : List ℕ) (p : Parsed) → many (step d ms p) ≡ length (d .lists)
+step-count : (d : Desk) (ms : List ℕ) (p : Parsed) → many (stepTested d ms p) ≡ length (d .lists)
 unfolding unread audited putBack
 step-count d ms Wrong = refl
 step-count d ms (Right o) =
@@ -40,4 +41,4 @@ pub desk-kept : (s : Lent) (p : Parsed) → deskOf (lentStep s p .lent) ≡ step
 unfolding lentStep leftBy deskOf
 desk-kept s p =
     let d = step (deskOf s) (s .marks) p .result .desk in
-    ap (deskWith (d .words)) (rows-laid (d .lists) (s .lists) (step-count (deskOf s) (s .marks) p))
+    ap (deskWith (d .words)) (rows-laid (d .lists) (s .lists) (step-count (deskOf s) (s .marks) (tested p)))

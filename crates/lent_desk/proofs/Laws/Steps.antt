@@ -13,7 +13,9 @@ use Rattle.words.proofs.Laws.Cases.{both}
 use Rattle.answers.specs.declared.Refusal.the-variants.{Size, NoSuchList, Malformed}
 use Rattle.walk.specs.Marks.{sizesFit, Marking, marking}
 use Rattle.lines.specs.declared.line.Order.{Order}
+use Rattle.lines.specs.declared.line.Parsed.{Parsed}
 use Rattle.lines.specs.declared.line.Parsed.the-variants.{Right, Malformed as Wrong}
+use Rattle.lines.specs.Lines.{tested}
 use Rattle.lines.specs.declared.answer.Reply.{Reply}
 use Rattle.desk.specs.declared.Row.{Row}
 use Rattle.desk.specs.declared.Worked.{Worked}
@@ -22,7 +24,7 @@ use Rattle.desk.specs.Step.{deskStepped, freshRow, deskFits, listsThere, comman
 use Rattle.rows.specs.Rows.{rowsOf, laid}
 use Rattle.rows.proofs.Laws.Rows.{laid-own, laid-two}
 use Rattle.lent_desk.specs.Lent.{Lent, lent, LentStepped, lentStepped, deskOf, leftBy, lentStep}
-use Rattle.lent_desk.specs.Steps.{auditReply, commandStep}
+use Rattle.lent_desk.specs.Steps.{auditReply, commandStep, lentTested}
 
 -- a command that is read, done and stored
 pub command-stored : (s : Lent) (o : Order) (r q : Row)
@@ -43,9 +45,14 @@ module _ (s : Lent) where
   unfolding leftBy deskOf
   kept ms a = rw (laid-own (s .lists))
 
-  pub malformed : (a : Reply) → a ≡ replyUnread Malformed → lentStepped s a ≡ lentStep s Wrong
-  unfolding lentStep unread
+  pub malformed : (a : Reply) → a ≡ replyUnread Malformed → lentStepped s a ≡ lentTested s Wrong
+  unfolding lentTested unread
   malformed a told = ap (lentStepped s) told ∙ sym (kept (s .marks) (replyUnread Malformed))
+
+-- 11 is tested first
+pub tested-first : (s : Lent) (p q r : Parsed) (t : LentStepped) → q ≡ tested p → q ≡ r → t ≡ lentTested s r → t ≡ lentStep s p
+unfolding lentTested lentStep
+tested-first s p q r t e f h = rw (← e, f) h
 
 -- ---- a right line, by its tests
 
@@ -67,8 +74,8 @@ module _ (s : Lent) (o : Order) (k : ℕ) (few : k ≡ length (rowsOf (s .lists)
   unfolding listsThere deskOf
   there = rw few
 
-  pub too-big : not b ≡ true → (a : Reply) → a ≡ replyUnread Size → lentStepped s a ≡ lentStep s (Right o)
-  unfolding lentStep unread
+  pub too-big : not b ≡ true → (a : Reply) → a ≡ replyUnread Size → lentStepped s a ≡ lentTested s (Right o)
+  unfolding lentTested unread
   too-big h a told = rw (fits ∙ not-true b h, told) (sym (kept s (s .marks) (replyUnread Size)))
 
   audit-known : (ms : List ℕ) (a : Reply) → marking ms a ≡ auditReply (s .words) (rowsOf (s .lists)) (s .marks)
@@ -78,18 +85,18 @@ module _ (s : Lent) (o : Order) (k : ℕ) (few : k ≡ length (rowsOf (s .lists)
 
   pub audit-left : not b ≡ false → o .code ≡ 20
       → (ms : List ℕ) (a : Reply) → marking ms a ≡ auditReply (s .words) (rowsOf (s .lists)) (s .marks)
-      → lentStepped (lent (s .words) (s .lists) ms) a ≡ lentStep s (Right o)
-  unfolding lentStep
+      → lentStepped (lent (s .words) (s .lists) ms) a ≡ lentTested s (Right o)
+  unfolding lentTested
   audit-left h c ms a made =
       rw (fits ∙ not-false b h, eq-eqb (o .code) 20 c) (sym (kept s ms a) ∙ ap (leftBy s) (audit-known ms a made))
 
   pub no-list : not b ≡ false → (o .code ≡ 20 → ⊥) → not (ltb (o .list) k && ltb (o .other) k) ≡ true
-      → (a : Reply) → a ≡ replyUnread NoSuchList → lentStepped s a ≡ lentStep s (Right o)
-  unfolding lentStep unread
+      → (a : Reply) → a ≡ replyUnread NoSuchList → lentStepped s a ≡ lentTested s (Right o)
+  unfolding lentTested unread
   no-list h c n a told =
       rw (fits ∙ not-false b h, ne-eqb (o .code) 20 c, there ∙ not-true _ n, told) (sym (kept s (s .marks) (replyUnread NoSuchList)))
 
   pub command-left : not b ≡ false → (o .code ≡ 20 → ⊥) → not (ltb (o .list) k && ltb (o .other) k) ≡ false
-      → (t : LentStepped) → t ≡ commandStep s o → t ≡ lentStep s (Right o)
-  unfolding lentStep commandStep deskOf
+      → (t : LentStepped) → t ≡ commandStep s o → t ≡ lentTested s (Right o)
+  unfolding lentTested commandStep deskOf
   command-left h c n t made = rw (fits ∙ not-false b h, ne-eqb (o .code) 20 c, there ∙ not-false _ n) made

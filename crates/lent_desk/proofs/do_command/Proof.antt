@@ -1,5 +1,6 @@
 -- `do_command` meets its contract. Assumes nothing.
 use borrow.Author.Tests.{eq-eqb, ne-eqb}
+use Rattle.desk.specs.Work.{onRows}
 use Rattle.desk.specs.Step.{command}
 use borrow.Author.Needs.{needs}
 use Rattle.lent_desk.proofs.do_command.Statement.{statement}
@@ -18,15 +19,24 @@ returns : tie.Need-returns
 unfolding command
 returns c = rw (eq-eqb _ _ (c .before .before .before .before .before .before .before .if1 .taken)) (c .before .before .before .before .clear .ensures)
 
-work-requires : tie.Need-work-requires
-work-requires c κs = search needs
+same-list-requires : tie.Need-same-list-requires
+same-list-requires c κs = search needs
+
+returns-2 : tie.Need-returns-2
+unfolding command onRows
+returns-2 c = rw (ne-eqb _ _ (c .before .before .if1 .left), ← (c .before .same-list .ensures), c .if2 .taken)
+
+by-code-requires : tie.Need-by-code-requires
+by-code-requires c κs = search needs
 
 same-length-3 : tie.Need-same-length-3
 same-length-3 c = search needs
 
-returns-2 : tie.Need-returns-2
-unfolding command
-returns-2 c = rw (ne-eqb _ _ (c .before .before .before .before .if1 .left), ← (c .before .before .work .ensures))
+returns-3 : tie.Need-returns-3
+unfolding command onRows
+returns-3 c =
+    let s = c .before .before .before .before in
+    rw (ne-eqb _ _ (s .before .before .if1 .left), ← (s .before .same-list .ensures), s .if2 .left, ← (c .before .before .by-code .ensures))
 
 pub do-command-spec : {M : Type 1} → statement M
 do-command-spec =
@@ -36,6 +46,8 @@ do-command-spec =
     same-length
     same-length-2
     returns
-    work-requires
+    same-list-requires
+    returns-2
+    by-code-requires
     same-length-3
-    returns-2)
+    returns-3)

@@ -1,7 +1,7 @@
 -- What passing the tests of a read tells, and that the record is there. Assumes nothing.
 use mathlib.Core.Path.{_≡_, sym, _∙_}
 use mathlib.Core.Bool.{true, false, not, _&&_}
-use mathlib.Core.List.{List}
+use mathlib.Core.List.{List, []}
 use Prim.Native.Nat.{ℕ, suc, _+_, _*_, _-_, _^_, _<_, _≤_}
 use native.Mathlib.Omega.{arith}
 use native.Mathlib.Nat.{mul-le-mul, mul-le-mul-right, suc-mul, mul-comm}
@@ -119,7 +119,14 @@ module _ (ws : List ℕ) (e : Ends) (c : Cursor) (rs : List ℕ) (width : ℕ) (
       both (poolFits (length ws)) (leb width 256)
       (both (poolFits (length ws) && leb width 256) (ltb 0 width && eqb (length rs) (width * length ws)) f .0) .0
 
-  -- at a node the read gives the node's record, which is as long as the width
+  -- at a node the read is done
+  pub read-done : (L : List ℕ) (x : ℕ) (R : List ℕ) → Sound ws e c (at L x R) → readTest ws e c (length rs) width ≡ Done
+  unfolding readTest someTest
+  read-done L x R s =
+      let n : isNull (c .current) ≡ false = rw (s .place .0) (name-null x) in
+      rw (f, sound-test ws e c (at L x R) pool-fits s, n)
+
+  -- it gives the node's record, which is as long as the width
   pub read-does : (L : List ℕ) (x : ℕ) (R : List ℕ) → Sound ws e c (at L x R) → readAt ws e c rs width ≡ recordOf rs width x
   unfolding readAt readTest someTest
   read-does L x R s =
@@ -135,3 +142,8 @@ module _ (ws : List ℕ) (e : Ends) (c : Cursor) (rs : List ℕ) (width : ℕ) (
   pub read-null : (xs : List ℕ) → Sound ws e c (atNull xs) → readTest ws e c (length rs) width ≡ Refused AtNull
   unfolding readTest someTest
   read-null xs s = let n : isNull (c .current) ≡ true = rw (s .place .0) in rw (f, sound-test ws e c (atNull xs) pool-fits s, n)
+
+  -- and gives nothing
+  pub read-nothing : (xs : List ℕ) → Sound ws e c (atNull xs) → readAt ws e c rs width ≡ []
+  unfolding readAt
+  read-nothing xs s = rw (read-null xs s)

@@ -21,7 +21,7 @@ use Rattle.batch_desk.specs.Step.{noMarks}
 use Rattle.stream.specs.Stream.{bytesOf}
 use Rattle.batch_desk.specs.Run.{bytesOfAll, Running, running, runOf, finishOf, finished}
 use Rattle.batch_desk.proofs.Laws.Whole.{whole-answered}
-use Rattle.rewzhanok.specs.Entry.{entered, mayRun, answersTo, entryOf}
+use Rattle.rewzhanok.specs.Entry.{entered, entryTest, answersTo, entryOf}
 
 -- ---- as many bytes as eleven a line
 
@@ -56,11 +56,11 @@ abbrev freshKept : DeskStepped
 freshKept = deskStepped (freshDesk 1024 8) (reply 0 0 0)
 
 pub too-long : (cs out : List ℕ) → 65536 < length cs → entered out 4294967295 ≡ entryOf cs out
-unfolding entryOf mayRun
+unfolding entryOf entryTest
 too-long cs out h = rw (lt-leb (length cs) 65536 h)
 
 pub no-room : (cs out : List ℕ) → length cs ≤ 65536 → length out < 11 * length (linesOf cs) → entered out 4294967295 ≡ entryOf cs out
-unfolding entryOf mayRun
+unfolding entryOf entryTest
 no-room cs out h r = rw (le-leb (length cs) 65536 h, lt-leb (11 * length (linesOf cs)) (length out) r)
 
 module _ (cs out : List ℕ) (long : length cs ≤ 65536) (room : 11 * length (linesOf cs) ≤ length out) (w : Running)
@@ -76,7 +76,7 @@ module _ (cs out : List ℕ) (long : length cs ≤ 65536) (room : 11 * length (l
       ∙ rw (answers-told (map lineOf (linesOf cs)), answers-length cs)
 
   pub runs-entry : entered (w .out) (w .wrote) ≡ entryOf cs out
-  unfolding entryOf mayRun
+  unfolding entryOf entryTest
   runs-entry =
       rw (le-leb (length cs) 65536 long, le-leb (11 * length (linesOf cs)) (length out) room, ← out-is)
       (ap (entered (w .out)) (wrote-is ∙ sym (answers-length cs)))

@@ -1,7 +1,7 @@
 -- `Line::parse` meets its contract. Assumes nothing.
-use borrow.Author.Tests.{eq-eqb, ne-eqb, not-true, not-false}
+use borrow.Author.Tests.{eq-eqb, ne-eqb}
 use borrow.Author.Needs.{needs}
-use Rattle.lines.specs.Lines.{parsed, orderOf}
+use Rattle.lines.specs.Lines.{parsed, tested, orderOf}
 use Rattle.lines.proofs.line.Line.parse.Statement.{statement}
 use Rattle.lines.proofs.line.Line.parse.Tie as tie
 
@@ -21,18 +21,14 @@ cast-t13 c = search needs
 cast-t15 : tie.Need-cast-t15
 cast-t15 c = search needs
 
-right-fields-requires : tie.Need-right-fields-requires
-right-fields-requires c κs = search needs
+tested-requires : tie.Need-tested-requires
+tested-requires c κs = search needs
 
 returns-2 : tie.Need-returns-2
-unfolding parsed orderOf
-returns-2 c = rw (eq-eqb _ _ (c .before .before .if1 .left), ← (c .before .right-fields .ensures), not-true (c .before .right-fields .result) (c .if2 .taken))
-
-returns-3 : tie.Need-returns-3
-unfolding parsed orderOf
-returns-3 c = rw (eq-eqb _ _ (c .before .before .if1 .left), ← (c .before .right-fields .ensures), not-false (c .before .right-fields .result) (c .if2 .left))
+unfolding parsed tested orderOf
+returns-2 c = rw (eq-eqb _ _ (c .before .if1 .left)) (c .tested .ensures)
 
 pub parse-spec : {M : Type 1} → statement M
 parse-spec =
     tie.close
-    (tie.spec returns cast-t7 cast-t10 cast-t13 cast-t15 right-fields-requires returns-2 returns-3)
+    (tie.spec returns cast-t7 cast-t10 cast-t13 cast-t15 tested-requires returns-2)
