@@ -8,6 +8,7 @@ ROOT = HOST.parent
 OUT = ROOT / "target" / "host"
 DESK = ROOT / "target" / "bin" / "desk_main"
 LIBRARY = ROOT / "target" / "staticlib" / "librewzhanok.a"
+POOLS_LIBRARY = ROOT / "target" / "staticlib" / "librewzhanok_pools.a"
 # A sample of lines, and what the Rust crate answers to them: host/sample makes both.
 KEPT_LINES = ROOT / "crates" / "replay" / "stdin"
 KEPT_ANSWERS = ROOT / "crates" / "replay" / "stdout"
@@ -43,12 +44,20 @@ def tuned():
     return rust("tuned", "tuned_lists")
 
 
-def caller(name="caller", *flags):
-    """The C caller, linked with the static library."""
-    sources = [HOST / "caller.c", HOST / "guarded.h", ROOT / "include" / "rewzhanok.h", LIBRARY]
+def linked(name, parts, library, flags):
+    """A C caller made of parts of host/, the main one first, linked with a static library."""
+    sources = [HOST / part for part in parts]
     command = ["gcc", "-std=c11", "-O1", "-Wall", "-Wextra", "-Werror", *flags, "-I", ROOT / "include",
-               "-o", OUT / name, HOST / "caller.c", LIBRARY]
-    return made(OUT / name, sources, command)
+               "-o", OUT / name, sources[0], library]
+    return made(OUT / name, [*sources, ROOT / "include" / f"{library.stem[3:]}.h", library], command)
+
+
+def caller(name="caller", *flags):
+    return linked(name, ["caller.c", "guarded.h"], LIBRARY, flags)
+
+
+def pools_caller(name="pools_caller", *flags):
+    return linked(name, ["pools_caller.c", "pools_calls.h", "pools_expected.h", "guarded.h"], POOLS_LIBRARY, flags)
 
 
 def faults():
@@ -62,3 +71,10 @@ def oracle():
     sources = [HOST / "oracle.rs", HOST / "oracle_desk.rs", *CRATE.glob("*.rs")]
     command = ["rustc", "--edition", "2021", "-O", "-o", OUT / "oracle", sources[0]]
     return made(OUT / "oracle", sources, command)
+
+
+def pools_race():
+    """Walk and audit beside a plain loop, linked with the library of pools."""
+    target, source = OUT / "pools_race", HOST / "pools_race.rs"
+    command = ["rustc", "--edition", "2021", "-O", "-L", f"native={POOLS_LIBRARY.parent}", "-l", "static=rewzhanok_pools", "-o", target, source]
+    return made(target, [source, POOLS_LIBRARY], command)

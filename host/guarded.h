@@ -1,4 +1,4 @@
-/* Buffers that lie right against memory that may not be touched, for host/caller.c. */
+/* Buffers that lie right against memory that may not be touched, for host/caller.c and host/pools_caller.c. */
 #ifndef GUARDED_H
 #define GUARDED_H
 

@@ -45,6 +45,7 @@ PLACES = {
         "Name(heads[i])": "ends are lent as words",
         "Name(tails[i])": "ends are lent as words",
     },
+    "rewzhanok_pools/src/lib.rt": {"Name(NAME)": "ends are handed in as words"},
     "rows/src/lib.rt": {
         "Name(lists[at])": "ends and cursors are lent as words",
         "Name(lists[at + NUMBER])": "ends and cursors are lent as words",

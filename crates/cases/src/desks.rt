@@ -1,5 +1,5 @@
 // Lent desks of 4,096 nodes and 64 lists, and of one more, with a mark for each node and with one short. All nodes are free
-// and all lists empty. Node 4095 is pushed on list 63, or on list 64, and then all is audited.
+// and all lists empty. Node 4095 is pushed on list 63, on list 64 or on list 0, or node 0 on list 0, and then all is audited.
 use crate::show;
 use crate::text;
 
@@ -15,7 +15,7 @@ fn step(from: usize, n: u32, m: u32, k: u32, d: Desk) -> Desk {
     let mut words = d.words;
     let mut lists = d.lists;
     let mut marks = d.marks;
-    let lines = b"113f000fff1140000fff1400000000";
+    let lines = b"113f000fff1140000fff140000000011000000001100000fff";
     let line = text::part(lines, from, from % 100 + 10);
     io::write_all(1, line);
     let r = lent_desk::step_bytes(
@@ -24,7 +24,7 @@ fn step(from: usize, n: u32, m: u32, k: u32, d: Desk) -> Desk {
         text::cut_marks(&mut marks, m as usize),
         line,
     );
-    show::values(25, [r.number, r.first, r.second, 0, 0, 0, 0, 0, 0, 0, 0]);
+    show::values(1, [r.number, r.first, r.second, 0, 0, 0, 0, 0, 0, 0, 0]);
     Desk {
         words,
         lists,
@@ -35,7 +35,7 @@ fn step(from: usize, n: u32, m: u32, k: u32, d: Desk) -> Desk {
 // What the lines leave of node 4095 and of list 63: word, mark, ends, cursor.
 fn left(d: Desk) {
     show::values(
-        26,
+        2,
         [
             d.words[4095],
             d.marks[4095] as u32,
@@ -59,7 +59,7 @@ fn one(line: usize, n: u32, m: u32, k: u32, words: u32) {
         lists: [0u32; 325],
         marks: [9u8; 4097],
     };
-    show::values(24, [n, m, k, 0, 0, 0, 0, 0, 0, 0, 0]);
+    show::values(0, [n, m, k, 0, 0, 0, 0, 0, 0, 0, 0]);
     left(step(20, n, m, words, step(line, n, m, words, d)));
 }
 
@@ -67,6 +67,8 @@ pub(crate) fn run() {
     one(0, 4096, 4096, 64, 320);
     one(10, 4096, 4096, 64, 320);
     one(0, 4097, 4097, 64, 320);
+    one(30, 4097, 4097, 64, 320);
+    one(40, 4096, 4096, 64, 320);
     one(0, 4096, 4096, 65, 325);
     one(0, 4096, 4095, 64, 320);
 }

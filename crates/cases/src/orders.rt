@@ -7,6 +7,7 @@ use desk::Row;
 use ends::Ends;
 use lines::line::Order;
 use lines::line::Parsed;
+use words::link_ops::LinkOps;
 use words::names::Name;
 
 // Three nodes, two lists.
@@ -23,7 +24,7 @@ fn step(order: Order, d: Small) -> Small {
     let mut marks = d.marks;
     let r = lent_desk::step(&mut words, &mut lists, &mut marks, Parsed::Right(order));
     show::values(
-        27,
+        3,
         [
             order.code,
             order.list,
@@ -48,7 +49,7 @@ fn step(order: Order, d: Small) -> Small {
 // What it leaves: words, list 0, marks.
 fn left(d: Small) {
     show::values(
-        28,
+        4,
         [
             d.words[0],
             d.words[1],
@@ -80,46 +81,40 @@ fn one(code: u32, list: u32, other: u32, node: u32) {
     left(step(order, d));
 }
 
-// An order on so many words and on the two lists: its number, and the named list.
-fn work(n: u32, code: u32, list: u32, other: u32, node: u32) {
-    let mut words = [1u32; 4097];
-    words[0] = 4;
-    words[1] = 2;
-    let ends = Ends {
-        head: Name(2),
-        tail: Name(4),
-    };
-    let cursor = Cursor {
-        current: Name(2),
-        prev: Name(0),
-        next: Name(4),
-    };
-    let empty = Ends::empty();
+// List 0, with its cursor.
+fn named() -> Row {
+    let ends = Ends::new(Name(2), Name(4));
+    let cursor = Cursor::new(Name(2), Name(0), Name(4));
+    Row { ends, cursor }
+}
+
+// List 1.
+fn other() -> Row {
+    let ends = Ends::empty();
+    let cursor = Cursor::null(ends);
+    Row { ends, cursor }
+}
+
+// An order on so many words and on the two lists: its number, and the named list. It is the line that has the desk's limit;
+// here the pool's is tested.
+fn work(words: &mut [u32], n: u32, code: u32, list: u32, with: u32, node: u32) {
     let order = Order {
         code,
         list,
-        other,
+        other: with,
         node,
     };
-    let r = desk::work::work(
-        text::cut(&mut words, n as usize),
-        Row { ends, cursor },
-        Row {
-            ends: empty,
-            cursor: Cursor::null(empty),
-        },
-        order,
-    );
+    let r = desk::work::work(text::cut(words, n as usize), named(), other(), order);
     let a = r.answer;
     let e = r.named.ends;
     let c = r.named.cursor;
     show::values(
-        29,
+        5,
         [
             n,
             code,
             list,
-            other,
+            with,
             node,
             a.number(),
             e.head.0,
@@ -131,18 +126,61 @@ fn work(n: u32, code: u32, list: u32, other: u32, node: u32) {
     );
 }
 
-pub(crate) fn run() {
+// Clear, on so many words and marks.
+fn clear(words: &mut [u32], marks: &mut [u8], n: u32) {
+    let r = desk::work::clear(
+        text::cut(words, n as usize),
+        text::cut_marks(marks, n as usize),
+        named(),
+        other(),
+    );
+    let a = r.answer;
+    let e = r.named.ends;
+    let c = r.named.cursor;
+    show::values(
+        6,
+        [
+            n,
+            a.number(),
+            e.head.0,
+            e.tail.0,
+            c.current.0,
+            c.prev.0,
+            c.next.0,
+            0,
+            0,
+            0,
+            0,
+        ],
+    );
+}
+
+fn works(words: &mut [u32]) {
+    let words = &mut *words;
+    work(words, 1000001, 5, 1, 1, 0);
+    work(words, 1000000, 5, 1, 1, 0);
+    work(words, 4097, 5, 1, 1, 0);
+    work(words, 1000001, 13, 0, 0, 0);
+    work(words, 1000000, 13, 0, 0, 0);
+    work(words, 1000000, 20, 0, 0, 0);
+    work(words, 1000000, 5, 1, 1, 7);
+    work(words, 1000001, 9, 0, 0, 0);
+    work(words, 1000000, 9, 0, 0, 0);
+    work(words, 4097, 9, 0, 0, 0);
+}
+
+pub(crate) fn run(words: &mut [u32], marks: &mut [u8]) {
+    let words = &mut *words;
+    let marks = &mut *marks;
     one(20, 9, 0, 0);
     one(99, 200, 0, 0);
     one(3, 0, 200, 0);
     one(9, 300, 0, 0);
     one(1, 0, 0, 70000);
     one(9, 0, 0, 0);
-    work(4097, 5, 1, 1, 0);
-    work(4096, 5, 1, 1, 0);
-    work(4097, 13, 0, 0, 0);
-    work(4096, 13, 0, 0, 0);
-    work(4096, 20, 0, 0, 0);
-    work(4096, 5, 1, 1, 7);
-    work(4096, 9, 0, 0, 0);
+    LinkOps::put(words, Name(2), 4);
+    LinkOps::put(words, Name(4), 2);
+    works(words);
+    clear(words, marks, 1000001);
+    clear(words, marks, 1000000);
 }

@@ -1,11 +1,5 @@
 // Printing: what a call hands back, by a line of a table that says how, in short text on standard output.
 use crate::text;
-use answers::Answer;
-use cursor::Cursor;
-use cursor::Edited;
-use ends::Ends;
-use list::ListEdited;
-use words::names::Found;
 
 fn one(b: u8) {
     let a = [b];
@@ -18,33 +12,14 @@ fn number(n: u32) {
     io::print_decimal(1, n as u64);
 }
 
-// A number that is given twice. If there is none, the two differ, and a dash is shown, or nothing.
-fn found(b: u8, n: u32, again: u32) {
-    if n == again {
+// An item of a line, from the next of the values. How many it takes is handed back.
+fn item(b: u8, n: u32) -> usize {
+    if b == b'$' {
         number(n);
-    } else if b == b'@' {
-        one(b' ');
-        one(b'-');
+        return 1;
     }
-}
-
-// An item of a line, from the next two of the values. How many it takes is handed back.
-fn item(b: u8, n: u32, next: u32) -> usize {
-    match b {
-        b'$' => {
-            number(n);
-            1
-        }
-        b'@' | b'+' => {
-            found(b, n, next);
-            2
-        }
-        b'^' => 1,
-        _ => {
-            one(b);
-            0
-        }
-    }
+    one(b);
+    0
 }
 
 fn value(v: &[u32], i: usize) -> u32 {
@@ -58,84 +33,22 @@ fn line(format: &[u8], v: &[u32]) {
     let mut at = 0;
     let mut i = 0;
     while i < format.len() {
-        let taken = item(format[i], value(v, at), value(v, at % 16 + 1));
+        let taken = item(format[i], value(v, at));
         at = std::num::wrapping_add_usize(at, taken);
         i += 1;
     }
 }
 
-// What each line shows: $ is a number, @ a node or none, + a number or nothing, ^ a number that is not shown.
+// What each line shows: $ is a number.
 pub(crate) fn values(code: usize, v: [u32; 11]) {
-    let table = b"# pool of$
-walk$@$
-front$@ |$$ |$$$
-back$@ |$$ |$$$
-move_next$@ |$$ |$$$
-move_prev$@ |$$ |$$$
-peek_next$@ |$$ |$$$
-place of 4095 after 4094$@ |$$ |$$$
-reverse$@ |$$
-fast_clear$@ |$$
-take$@ |$$^^^ |$$
-iterator$@
-pop_back$@ |$$
-replace by 4095$@ |$$ |$$$
-push_front of 0$@ |$$
-remove$@ |$$ |$$$
-insert_before of 0$@ |$$ |$$$
-split_after$@ |$$^^^ |$$
-splice_before$@ |$$^^^ |$$
-clear$@ |$$
-read: nodes$; records$; width$:$$++
-audit: nodes$; lists$:$@$$$ |$$$
-list 63 has no tail, nor has 64
-list 63 is list 62 again
-# desk: nodes$; marks$; lists$
+    let table = b"# desk: nodes$; marks$; lists$
 $$$
 left$$ |$$ |$$$
 order$$$$:$$$
 left$$$ |$$$$$ |$$$
 work: nodes$; order$$$$:$ |$$ |$$$
+clear: nodes$:$ |$$ |$$$
 ";
     let from = text::skip(table, 0, code);
     line(text::part(table, from, text::skip(table, from, 1)), &v);
-}
-
-// The node's number, or one for none. A node is shown by two of these, with 0 and with 1 for none.
-pub(crate) fn node(f: Found, none: u32) -> u32 {
-    match f {
-        Found::At(node) => node.0,
-        Found::Nothing => none,
-    }
-}
-
-// What a call hands back: its answer, the ends, the cursor, and the other list's ends.
-pub(crate) fn outcome(code: usize, a: Answer, e: Ends, c: Cursor, other: Ends) {
-    let f = a.node();
-    values(
-        code,
-        [
-            a.number(),
-            node(f, 0),
-            node(f, 1),
-            e.head.0,
-            e.tail.0,
-            c.current.0,
-            c.prev.0,
-            c.next.0,
-            other.head.0,
-            other.tail.0,
-            0,
-        ],
-    );
-}
-
-pub(crate) fn edited(code: usize, r: Edited) {
-    let a = r.answer;
-    outcome(code, a, r.ends, r.cursor, r.ends);
-}
-
-pub(crate) fn listEdited(code: usize, r: ListEdited) {
-    let a = r.answer;
-    outcome(code, a, r.ends, Cursor::null(r.ends), r.ends);
 }

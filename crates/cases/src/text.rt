@@ -1,27 +1,11 @@
 // Bytes and parts of slices, for any numbers.
 
-// A byte, 0 past the end.
-pub(crate) fn byte(s: &[u8], i: usize) -> u8 {
-    if i < s.len() {
-        return s[i];
-    }
-    0
-}
-
 // A part, all if there is no such part.
 pub(crate) fn part(s: &[u8], from: usize, to: usize) -> &[u8] {
     if from <= to {
         if to <= s.len() {
             return &s[from..to];
         }
-    }
-    s
-}
-
-// The first so many words, or all.
-pub(crate) fn first(s: &[u32], n: usize) -> &[u32] {
-    if n <= s.len() {
-        return &s[0..n];
     }
     s
 }

@@ -3,7 +3,7 @@
 use Prim.Native.Nat.{ℕ}
 use mathlib.Core.Bool.{Bool, _&&_, cond}
 use mathlib.Core.List.{List, map}
-use lib.Dec.{ltb, eqb}
+use lib.Dec.{ltb, leb, eqb}
 use lib.ListN.{length, getD, set, replicate}
 use Rattle.words.specs.Names.{directoryFits, unlinkedMarker}
 use Rattle.words.specs.Pool.{Outcome, outcome}
@@ -12,7 +12,7 @@ use Rattle.answers.specs.declared.Refusal.the-variants.{Size, NoSuchList, Malfo
 use Rattle.ends.specs.declared.Ends.{Ends}
 use Rattle.ends.specs.Ends.{emptyEnds}
 use Rattle.cursor.specs.Cursor.{nullCursor}
-use Rattle.walk.specs.Marks.{sizesFit, Marking, marking}
+use Rattle.walk.specs.Marks.{Marking, marking}
 use Rattle.audit.specs.Audit.{auditAll}
 use Rattle.lines.specs.declared.line.Order.{Order}
 use Rattle.lines.specs.declared.line.Parsed.{Parsed}
@@ -61,9 +61,14 @@ putWords d ws = record { words = ws; lists = d .lists }
 abbrev pub endsOfAll : List Row → List Ends
 endsOfAll rs = map (λ r. r .ends) rs
 
--- 1: the pool and the directory are within their limits, and there is one mark a node.
+-- The most nodes that a desk may have, however many a pool may (document 02, T-01). No other definition says so.
+unfoldable pub deskLimit : ℕ
+deskLimit = 4096
+
+-- 1: nodes and lists are within their limits, and there is one mark a node.
 unfoldable pub deskFits : Desk → List ℕ → Bool
-deskFits d ms = sizesFit (d .words) ms && directoryFits (length (d .lists))
+deskFits d ms =
+    leb (length (d .words)) deskLimit && eqb (length ms) (length (d .words)) && directoryFits (length (d .lists))
 
 -- 2: there are such lists. A field that is not used is zero, and there is a list 0 if there is any.
 unfoldable pub listsThere : Desk → Order → Bool

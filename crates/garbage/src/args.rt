@@ -42,34 +42,42 @@ pub(crate) fn of(line: &[u8]) -> Args {
     }
 }
 
-// Words of which so many, eight at the most, are arguments, one or two words of the line apart; the others are the same.
-pub(crate) fn words(
-    line: &[u8],
-    argument: usize,
-    apart: usize,
-    count: usize,
-    none: u32,
-) -> [u32; 4097] {
-    let mut w = [none; 4097];
+// The lent words become arguments, one or two words of the line apart.
+pub(crate) fn words(s: &mut [u32], line: &[u8], argument: usize, apart: usize, none: usize) {
+    let n = s.len();
     let mut after = 0;
     let mut i = 0;
-    while i < count % 9 {
-        w[i] = word(line, argument, after, none as usize);
+    while i < n {
+        s[i] = word(line, argument, after, none);
         after = std::num::wrapping_add_usize(after, apart);
         i += 1;
     }
-    w
 }
 
-// As many marks as are given, eight at the most; the others are 9.
-pub(crate) fn marks(line: &[u8]) -> [u8; 4097] {
-    let mut m = [9u8; 4097];
+// The lent marks become those that are given, and 9 where none is.
+pub(crate) fn marks(s: &mut [u8], line: &[u8]) {
+    let n = s.len();
     let mut i = 0;
-    while i < 8 {
-        m[i] = (number(line, line::FIRST_MARK, i, 9) % 256) as u8;
+    while i < n {
+        s[i] = (number(line, line::FIRST_MARK, i, 9) % 256) as u8;
         i += 1;
     }
-    m
+}
+
+// The first so many words to change, or all.
+pub(crate) fn cut(s: &mut [u32], n: usize) -> &mut [u32] {
+    if n <= s.len() {
+        return &mut s[0..n];
+    }
+    s
+}
+
+// The first so many marks, or all.
+pub(crate) fn cut_marks(s: &mut [u8], n: usize) -> &mut [u8] {
+    if n <= s.len() {
+        return &mut s[0..n];
+    }
+    s
 }
 
 // The first so many, or all.

@@ -18,14 +18,16 @@ fn lesser(a: usize, b: usize) -> usize
 }
 
 // A head and a tail as a record.
-fn record(heads: &[u32; 4097], tails: &[u32; 4097], i: usize) -> Ends {
+fn record(heads: &[u32; 4], tails: &[u32; 4], i: usize) -> Ends {
     Ends::new(Name(heads[i % 4]), Name(tails[i % 4]))
 }
 
 // The records of the line's four lists, and of empty ones after them.
 fn all(line: &[u8]) -> [Ends; 65] {
-    let heads = args::words(line, line::CURRENT, 2, 4, 0);
-    let tails = args::words(line, line::PREV, 2, 4, 0);
+    let mut heads = [0u32; 4];
+    let mut tails = [0u32; 4];
+    args::words(&mut heads, line, line::CURRENT, 2, 0);
+    args::words(&mut tails, line, line::PREV, 2, 0);
     let mut dir = [Ends::empty(); 65];
     dir[0] = record(&heads, &tails, 0);
     dir[1] = record(&heads, &tails, 1);

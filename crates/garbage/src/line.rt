@@ -70,7 +70,8 @@ fn digits(s: &[u8], from: usize, none: usize) -> usize {
 
 // Which word has an argument, by the kind of a line: a for the first after the colon, a dot if it is not given. A row is a
 // kind and then the arguments in their order. A directory has how many heads and tails there are for head and tail, and the
-// first of each for current and prev; a read has how many bytes and how wide a record for the other's head and tail.
+// first of each for current and prev, and so has a host, with how many numbers it lends for the node; a read has how many bytes
+// and how wide a record for the other's head and tail.
 fn place(kind: u8, argument: usize) -> u8 {
     let rows = b"N.......a....
 Sb...dhjf..l.
@@ -79,6 +80,7 @@ Fb.deghikmnp.
 Lbdfg...ikln.
 Mbide...g..tk
 Dbdfhjk....s.
+Hbdfhjk.s..u.
 Pb.de...gi.k.
 Ab.de...g..i.
 Ib.hi.gj...l.

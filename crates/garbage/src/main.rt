@@ -6,6 +6,7 @@
 mod args;
 mod changes;
 mod directory;
+mod entries;
 mod line;
 mod marks;
 mod plain;

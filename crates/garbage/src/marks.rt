@@ -1,8 +1,9 @@
-// The calls that are lent marks: walk and clear, the step of one list, the audit over two slices and over records; from 54 of
-// the table.
+// The calls that are lent marks: walk and clear, the step of one list, the audit over two slices and over records, and the
+// entries for a host; from 54 of the table.
 use crate::args;
 use crate::args::Args;
 use crate::directory;
+use crate::entries;
 use crate::line;
 use crate::line::number;
 use crate::values;
@@ -42,10 +43,12 @@ fn clear(words: &mut [u32], marks: &mut [u8], e: Ends) -> [u32; 11] {
     ]
 }
 
-// The audit; then the nodes are counted again by the marks.
+// The audit of the line's four lists, and of empty ones after them; then the nodes are counted again by the marks.
 fn audited(line: &[u8], words: &[u32], marks: &mut [u8]) -> [u32; 11] {
-    let heads = args::words(line, line::CURRENT, 2, 4, 0);
-    let tails = args::words(line, line::PREV, 2, 4, 0);
+    let mut heads = [0u32; 66];
+    let mut tails = [0u32; 66];
+    args::words(args::cut(&mut heads, 4), line, line::CURRENT, 2, 0);
+    args::words(args::cut(&mut tails, 4), line, line::PREV, 2, 0);
     let r = audit::audit(
         words,
         args::first(&heads, number(line, line::HEAD, 0, 1)),
@@ -80,6 +83,8 @@ pub(crate) fn call(
         55 => clear(words, marks, a.ends),
         58 => audited(line, words, marks),
         59 => directory::audited(line, words, marks),
+        60 => entries::walked(line, words, marks),
+        61 => entries::audited(line, words, marks),
         _ => walked(code, words, marks, a.ends, a.node.0),
     }
 }

@@ -150,9 +150,8 @@ fn iterated(code: usize, words: &[u32], line: &[u8]) -> [u32; 11] {
     ]
 }
 
-// Bytes that tell the places of the records apart; 200 elsewhere.
-fn bytes() -> [u8; 4097] {
-    let mut r = [200u8; 4097];
+// Bytes that tell the places of the records apart.
+fn stamp(r: &mut [u8; 1000001]) {
     r[0] = 10;
     r[1] = 11;
     r[2] = 20;
@@ -161,13 +160,18 @@ fn bytes() -> [u8; 4097] {
     r[9] = 51;
     r[512] = 2;
     r[767] = 3;
-    r
+}
+
+// The first so many of the bytes, or all.
+fn some(r: &[u8; 1000001], len: usize) -> &[u8] {
+    line::part(r, 0, len)
 }
 
 // How long the part is, and its first and last byte if there is one, each given twice.
 fn read(words: &[u32], a: Args, len: usize, width: usize) -> [u32; 11] {
-    let all = bytes();
-    let records = line::part(&all, 0, len);
+    let mut all = [200u8; 1000001];
+    stamp(&mut all);
+    let records = some(&all, len);
     let t = records::read_test(a.cursor, words, a.ends, records, width);
     let p = records::read(a.cursor, words, a.ends, records, width);
     let n = p.len();

@@ -3,12 +3,20 @@ use crate::args;
 use crate::line;
 use crate::show;
 
+// A word of the case: the line gives eight at the most, and after them it is 1.
+fn given(case: &[u8], i: usize) -> u32 {
+    if i < 8 {
+        return args::word(case, line::FIRST_WORD, i, 1);
+    }
+    1
+}
+
 // Whether a pool has the words of the case.
 fn same(case: &[u8], a: &[u32]) -> bool {
     let mut equal = true;
     let mut i = 0;
     while i < a.len() {
-        equal = equal & (args::word(case, line::FIRST_WORD, i, 1) == a[i]);
+        equal = equal & (given(case, i) == a[i]);
         i += 1;
     }
     equal

@@ -17,23 +17,26 @@ use rows::row_count;
 ghost use mathlib.Core.Path.{_≡_};
 ghost use mathlib.Core.Bool.{_&&_};
 ghost use Prim.Native.Nat.{_≤_};
-ghost use lib.Dec.{eqb};
+ghost use lib.Dec.{leb, eqb};
 ghost use lib.ListN.{length};
-ghost use Rattle.words.specs.Names.{poolFits, directoryFits};
+ghost use Rattle.words.specs.Names.{directoryFits};
 ghost use Rattle.words.specs.Pool.{outcome};
 ghost use Rattle.walk.specs.Marks.{marking};
 ghost use Rattle.lines.specs.declared.line.Parsed.the-variants.{Right};
 ghost use Rattle.lines.specs.Lines.{lineOf};
-ghost use Rattle.desk.specs.Step.{command};
+ghost use Rattle.desk.specs.Step.{deskLimit, command};
 ghost use Rattle.rows.specs.Rows.{rowsOf};
 ghost use Rattle.lent_desk.specs.Lent.{lent, lentStepped, lentStep};
 ghost use Rattle.lent_desk.specs.Steps.{auditReply, commandStep, lentTested};
 
-// 1: so many nodes, marks and lists are within the limits.
+// The most nodes that a desk may have.
+const DESK_LIMIT: usize = 4096;
+
+// 1: so many nodes and lists are within the limits, and so many marks are one a node.
 fn sizes_fit(nodes: usize, marks: usize, lists: usize) -> bool
-    ensures { λ r. ⌜ r ≡ ((poolFits nodes && eqb marks nodes) && directoryFits lists) ⌝ }
+    ensures { λ r. ⌜ r ≡ ((leb nodes deskLimit && eqb marks nodes) && directoryFits lists) ⌝ }
 {
-    words::names::pool_fits(nodes) & (marks == nodes) & words::names::directory_fits(lists)
+    (nodes <= DESK_LIMIT) & (marks == nodes) & words::names::directory_fits(lists)
 }
 
 // Audits all lists. Their heads and tails are copied, since an audit wants them apart.

@@ -4,3 +4,4 @@ pub mod XorListing
 pub mod Trades
 pub mod Between
 pub mod Cuts
+pub mod Reach

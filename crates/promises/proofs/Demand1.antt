@@ -1,14 +1,24 @@
 -- Demand 1 is kept. Assumes nothing.
-use mathlib.Core.Path.{refl, ap, _∙_}
+use mathlib.Core.Path.{_≡_, refl, sym, ap, _∙_}
+use mathlib.Core.Logic.{inl, inr}
+use mathlib.Core.Bool.{Bool, true, false, cond}
 use mathlib.Core.List.{List, [], _∷_}
 use Prim.Native.Nat.{ℕ, _*_, _≤_}
+use native.Mathlib.Omega.{arith}
 use lib.Dec.{leb}
 use lib.ListN.{length}
 use borrow.Author.Tests.{leb-true, le-leb}
 use Rattle.answers.specs.declared.Refusal.the-variants.{NoRoom}
+use Rattle.answers.specs.declared.Answer.{Answer}
 use Rattle.answers.specs.declared.Answer.the-variants.{Done}
-use Rattle.answers.specs.Answer.{need}
-use Rattle.table.specs.Table.{test}
+use Rattle.answers.specs.Answer.{need, answerNumber}
+use Rattle.answers.proofs.Laws.Ladder.{not-both}
+use Rattle.ends.specs.declared.Ends.{Ends}
+use Rattle.walk.specs.Calls.{walkAll}
+use Rattle.audit.specs.Audit.{auditAll}
+use Rattle.table.specs.Calls.{Call, walk, audit, Left, calls}
+use Rattle.table.specs.Table.{test, row}
+use Rattle.table.specs.Refused.{followsChain, marksAfter, Keeps}
 use Rattle.table.proofs.Laws.Ladder.{rung}
 use Rattle.table.proofs.Laws.All.{all-calls}
 use Rattle.table.proofs.Laws.Lowest.{audit-names}
@@ -20,9 +30,10 @@ use Rattle.rows.proofs.Laws.Rows.{laid-own}
 use Rattle.lent_desk.specs.Lent.{Lent, lent, deskOf, leftBy, lentStep}
 use Rattle.batch_desk.specs.Step.{noMarks, batchStep}
 use Rattle.rewzhanok.specs.Entry.{entryTest, entryOf}
-use Rattle.promises.specs.Demand1.{OnLent, OnBatch, AtEntry, Demand1}
+use Rattle.rewzhanok_pools.specs.Entries.{entered, written, noRoom, walkEntry, auditEntry}
+use Rattle.promises.specs.Demand1.{OnLent, OnBatch, AtEntry, AtPool, Demand1}
 use Rattle.promises.proofs.Commands.{at-work, at-clear}
-use Rattle.promises.proofs.Lines.{on-desk}
+use Rattle.promises.proofs.Lines.{numbered, refusal, kept-marks, on-desk}
 
 -- the lists go back to the places that they came from
 on-lent : (s : Lent) (p : Parsed) → OnLent s p
@@ -56,6 +67,40 @@ at-entry cs out =
       unchanged = λ h. rw h;
     }
 
+module _ (ws ms ns : List ℕ) (c : Call) (a : Answer) (after bs : List ℕ) (answers : calls ws ms c .answer ≡ a) (leaves : calls ws ms c .marks ≡ after) where
+  at-pool : (k : ℕ) → AtPool k ws ms ns c (cond (leb k (length ns)) (entered after (written bs ns) (answerNumber a)) (noRoom ms ns))
+  at-pool k = go (leb k (length ns)) refl
+    where
+      kept : Keeps ws ms c
+      kept = all-calls ws ms c
+
+      go : (b : Bool) → leb k (length ns) ≡ b → AtPool k ws ms ns c (cond b (entered after (written bs ns) (answerNumber a)) (noRoom ms ns))
+      go true h =
+          record {
+            tests = inl (leb-true k (length ns) h, numbered (row ws ms c) a (rw (← answers) (kept .tests)));
+            no-room = λ l. absurd (let m = leb-true k (length ns) h in omega arith);
+            marks = λ z.
+                let x = refusal a z in
+                sym leaves ∙ ap (λ (l : Left). l .marks) (kept .unchanged (x .0) (answers ∙ x .1))
+                ∙ ap (λ (t : Answer). marksAfter (followsChain c) (answerNumber t) ms) (sym (x .1));
+          }
+      go false h =
+          record {
+            tests = inr (λ m. not-both (sym (le-leb k (length ns) m) ∙ h), refl);
+            no-room = λ l. refl;
+            marks = λ z. kept-marks (followsChain c) 12 ms refl;
+          }
+
+at-walk : (ws ms ns : List ℕ) (e : Ends) → AtPool 1 ws ms ns (walk e) (walkEntry ws e ms ns)
+unfolding walkEntry
+at-walk ws ms ns e = let w = walkAll ws ms e in at-pool ws ms ns (walk e) (w .result .answer) (w .marks) (w .result .count ∷ []) refl refl 1
+
+at-audit : (ws ms ns : List ℕ) (es : List Ends) → AtPool 4 ws ms ns (audit es) (auditEntry ws es ms ns)
+unfolding auditEntry
+at-audit ws ms ns es =
+    let a = auditAll ws es ms in
+    at-pool ws ms ns (audit es) (a .result .answer) (a .marks) (a .result .list ∷ a .result .«on_lists» ∷ a .result .stranded ∷ 0 ∷ []) refl refl 4
+
 pub demand-1 : Demand1
 demand-1 =
     record {
@@ -67,4 +112,6 @@ demand-1 =
       lent-desk = on-lent;
       batch-desk = on-batch;
       entry = at-entry;
+      walk-entry = at-walk;
+      audit-entry = at-audit;
     }

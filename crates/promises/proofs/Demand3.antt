@@ -24,7 +24,7 @@ use Rattle.promises.specs.Demand3.{Whereabouts, unlinked, listed, strand
 use Rattle.promises.specs.Desks.{slicesAfter, ownMarks}
 use Rattle.promises.proofs.Bounds.{at-most}
 use Rattle.promises.proofs.Desks.{held-is, slices-are, slices-fresh, batch-is, own-marks, all-own}
-use Rattle.promises.proofs.Pieces.{pool-fits, few-lists, pieces-one}
+use Rattle.promises.proofs.Pieces.{few-nodes, few-lists, pieces-one}
 
 -- a node that is held at most once, and linked if it is held, is at one of three places
 somewhere : (n : ℕ) (d : Desk) (h : History) → Agrees n d h → (x : ℕ) → x < n → Whereabouts (d .words) h x
@@ -69,7 +69,7 @@ every-lent-desk n k f few s fresh gs m v mv =
 the-batch-desk : TheBatchDesk
 unfolding batchStep
 the-batch-desk gs v =
-    rw (batch-is gs (freshDesk 1024 8)) (every-desk 1024 8 pool-fits few-lists (map ownMarks gs) (all-own gs) (ownMarks v) own-marks)
+    rw (batch-is gs (freshDesk 1024 8)) (every-desk 1024 8 few-nodes few-lists (map ownMarks gs) (all-own gs) (ownMarks v) own-marks)
 
 pub demand-3 : Demand3
 demand-3 = record { desk = every-desk; lent-desk = every-lent-desk; batch-desk = the-batch-desk; in-pieces = pieces-one }

@@ -9,3 +9,4 @@ pub mod Bounds
 pub mod Desks
 pub mod Pieces
 pub mod Demand3
+pub mod Limits

@@ -8,7 +8,7 @@ use native.Mathlib.Omega.{arith}
 use lib.Dec.{eqb, ltb, leb}
 use lib.ListN.{length, set}
 use lib.Seq.{set-getD}
-use borrow.Author.Tests.{eqb-true, ltb-true, ltb-false}
+use borrow.Author.Tests.{eqb-true, eqb-false, ltb-true, ltb-false, leb-true, le-leb}
 use Rattle.words.specs.Names.{directoryFits}
 use Rattle.words.specs.Pool.{Outcome}
 use Rattle.words.proofs.Laws.Cases.{both}
@@ -18,14 +18,12 @@ use Rattle.answers.specs.declared.Answer.{Answer}
 use Rattle.answers.specs.declared.Answer.the-variants.{Done, Handed, Refused}
 use Rattle.answers.specs.Answer.{number, answerNumber, isRefused}
 use Rattle.answers.proofs.Laws.Ladder.{not-both}
-use Rattle.walk.specs.Marks.{sizesFit, Marking}
-use Rattle.walk.proofs.Laws.Calls.{sizes}
+use Rattle.walk.specs.Marks.{Marking}
 use Rattle.audit.specs.declared.Audited.{Audited}
 use Rattle.audit.specs.Audit.{auditAll}
 use Rattle.table.specs.Calls.{audit, Left}
 use Rattle.table.specs.Table.{Test, test, FirstFailing, row}
 use Rattle.table.specs.Refused.{marksAfter}
-use Rattle.table.proofs.Laws.Walks.{size-first}
 use Rattle.table.proofs.Laws.All.{all-calls}
 use Rattle.lines.specs.declared.line.Order.{Order}
 use Rattle.lines.specs.declared.line.Parsed.{Parsed}
@@ -35,7 +33,7 @@ use Rattle.lines.specs.Lines.{usesList, usesOther, usesNode, rightFields, teste
 use Rattle.desk.specs.declared.Row.{Row}
 use Rattle.desk.specs.declared.Worked.{Worked}
 use Rattle.desk.specs.Reply.{noNode, replyTo, replyToAudit, replyUnread}
-use Rattle.desk.specs.Step.{Desk, DeskStepped, freshRow, rowAt, endsOfAll, deskFits, listsThere, command, putBack, audited, unread, stepTested, step}
+use Rattle.desk.specs.Step.{Desk, DeskStepped, freshRow, rowAt, endsOfAll, deskLimit, deskFits, listsThere, command, putBack, audited, unread, stepTested, step}
 use Rattle.promises.specs.Commands.{Command, call, commandOn, commandOf, commandRow, commandFollows}
 use Rattle.promises.specs.Commands.{different, listThere, otherThere, sizesThen, lineFollows}
 use Rattle.promises.specs.Demand1.{FirstNumber, OnDesk}
@@ -53,12 +51,12 @@ numbered [] a f = none-refused a f
 numbered (t ∷ ts) a (inl w) = inl (w .0, numbered ts a (w .1))
 numbered (t ∷ ts) a (inr w) = inr (w .0, ap answerNumber (w .1))
 
-refusal : (a : Answer) → answerNumber a ≢ 0 → (x : Refusal) × (a ≡ Refused x)
+pub refusal : (a : Answer) → answerNumber a ≢ 0 → (x : Refusal) × (a ≡ Refused x)
 refusal Done h = absurd (h refl)
 refusal (Handed i) h = absurd (h refl)
 refusal (Refused r) h = (r, refl)
 
-kept-marks : (b : Bool) (n : ℕ) (ms : List ℕ) → eqb n 10 ≡ false → ms ≡ marksAfter b n ms
+pub kept-marks : (b : Bool) (n : ℕ) (ms : List ℕ) → eqb n 10 ≡ false → ms ≡ marksAfter b n ms
 kept-marks true n ms h = rw h
 kept-marks false n ms h = refl
 
@@ -84,20 +82,25 @@ module _ (d : Desk) (ms : List ℕ) (o : Order) where
   -- 1
   sizes-fail : (ts : List Test) → deskFits d ms ≡ false → FirstFailing (sizesThen d ms ts) (Refused Size)
   unfolding deskFits
-  sizes-fail ts = go (sizesFit (d .words) ms) refl (directoryFits (length (d .lists))) refl
+  sizes-fail ts =
+      go (leb (length (d .words)) deskLimit) refl (eqb (length ms) (length (d .words))) refl (directoryFits (length (d .lists))) refl
     where
-      go : (a : Bool) → sizesFit (d .words) ms ≡ a → (b : Bool) → directoryFits (length (d .lists)) ≡ b → a && b ≡ false
-          → FirstFailing (sizesThen d ms ts) (Refused Size)
-      go false p b q h = size-first (d .words) ms (test Size (directoryFits (length (d .lists)) ≡ true) ∷ ts) p
-      go true p false q h = let z = sizes (d .words) ms p in inl (z .fits, inl (z .long, inr (λ k. not-both (sym k ∙ q), refl)))
-      go true p true q h = absurd (not-both h)
+      go : (a : Bool) → leb (length (d .words)) deskLimit ≡ a → (b : Bool) → eqb (length ms) (length (d .words)) ≡ b
+          → (c : Bool) → directoryFits (length (d .lists)) ≡ c → a && b && c ≡ false → FirstFailing (sizesThen d ms ts) (Refused Size)
+      go false p b q c r h = inr (λ k. not-both (sym (le-leb (length (d .words)) deskLimit k) ∙ p), refl)
+      go true p false q c r h = inl (leb-true (length (d .words)) deskLimit p, inr (λ k. eqb-false (length ms) (length (d .words)) q k, refl))
+      go true p true q false r h =
+          inl (leb-true (length (d .words)) deskLimit p, inl (eqb-true (length ms) (length (d .words)) q, inr (λ k. not-both (sym k ∙ r), refl)))
+      go true p true q true r h = absurd (not-both h)
 
   sizes-pass : (ts : List Test) (n : ℕ) → deskFits d ms ≡ true → FirstNumber ts n → FirstNumber (sizesThen d ms ts) n
   unfolding deskFits
   sizes-pass ts n h f =
-      let p = both (sizesFit (d .words) ms) (directoryFits (length (d .lists))) h in
-      let z = sizes (d .words) ms (p .0) in
-      inl (z .fits, inl (z .long, inl (p .1, f)))
+      let a = leb (length (d .words)) deskLimit in
+      let b = eqb (length ms) (length (d .words)) in
+      let p = both (a && b) (directoryFits (length (d .lists))) h in
+      let q = both a b (p .0) in
+      inl (leb-true (length (d .words)) deskLimit (q .0), inl (eqb-true (length ms) (length (d .words)) (q .1), inl (p .1, f)))
 
   -- ---- the audit, which uses no list
 

@@ -1,13 +1,12 @@
 -- Bytes that come in pieces are one input. Assumes nothing.
 use mathlib.Core.Path.{_≡_, refl, ap, _∙_}
-use mathlib.Core.Bool.{true}
 use mathlib.Core.List.{map}
 use Prim.Native.Nat.{_≤_}
 use native.Mathlib.Omega.{arith}
-use Rattle.words.specs.Names.{poolLimit, poolFits, directoryLimit}
+use Rattle.words.specs.Names.{directoryLimit}
 use Rattle.lines.specs.Lines.{lineOf}
 use Rattle.lines.specs.Inputs.{linesOf}
-use Rattle.desk.specs.Step.{deskStepped, freshDesk}
+use Rattle.desk.specs.Step.{deskStepped, freshDesk, deskLimit}
 use Rattle.history.proofs.Laws.Runs.{answers-are}
 use Rattle.batch_desk.specs.Step.{noMarks}
 use Rattle.batch_desk.specs.Run.{bytesOfAll}
@@ -16,9 +15,9 @@ use Rattle.batch_desk.proofs.Laws.Pieces.{two-runs, pieces-are-one, pieces-answ
 use Rattle.promises.specs.Pieces.{InPieces}
 use Rattle.promises.proofs.Desks.{own-marks, whole-run}
 
-pub pool-fits : poolFits 1024 ≡ true
-unfolding poolFits poolLimit
-pool-fits = refl
+pub few-nodes : 1024 ≤ deskLimit
+unfolding deskLimit
+few-nodes = omega arith
 
 pub few-lists : 8 ≤ directoryLimit
 unfolding directoryLimit
@@ -32,5 +31,5 @@ pieces-one =
       desk = whole-run;
       answers = λ r ps h last k.
           let ls = map lineOf (linesOf (wholeOf ps)) in
-          pieces-answered (deskStepped (freshDesk 1024 8) r) ps h last k ∙ ap bytesOfAll (answers-are 1024 pool-fits 8 few-lists noMarks own-marks ls);
+          pieces-answered (deskStepped (freshDesk 1024 8) r) ps h last k ∙ ap bytesOfAll (answers-are 1024 few-nodes 8 few-lists noMarks own-marks ls);
     }

@@ -1,6 +1,6 @@
 -- The call that each command of a desk stands for (document 01, 'Command lines'), and the tests of a line in their order: 11, 1, 2, 3,
 -- and then the row of that call.
-use Prim.Native.Nat.{ℕ, _<_}
+use Prim.Native.Nat.{ℕ, _<_, _≤_}
 use mathlib.Core.Path.{_≡_}
 use mathlib.Core.Logic.{_≢_}
 use mathlib.Core.Bool.{Bool, true, false, cond}
@@ -22,7 +22,7 @@ use Rattle.lines.specs.declared.line.Parsed.{Parsed}
 use Rattle.lines.specs.declared.line.Parsed.the-variants.{Right, Malformed as Wrong}
 use Rattle.lines.specs.Lines.{usesList, usesOther, rightFields}
 use Rattle.desk.specs.declared.Row.{Row}
-use Rattle.desk.specs.Step.{Desk, rowAt, endsOfAll}
+use Rattle.desk.specs.Step.{Desk, deskLimit, rowAt, endsOfAll}
 
 -- What a command does: a call; or 0f, the cursor to null, which tests the ends alone; or there is no such command.
 pub data Command : Type 0 where
@@ -88,9 +88,10 @@ listThere d o = test NoSuchList (usesList (o .code) ≡ true → o .list < lengt
 abbrev pub otherThere : Desk → Order → Test
 otherThere d o = test NoSuchList (usesOther (o .code) ≡ true → o .other < length (d .lists))
 
--- 1: the pool, the marks, the directory.
+-- 1: the nodes, by the desk's own limit, the marks, the directory.
 abbrev pub sizesThen : Desk → List ℕ → List Test → List Test
-sizesThen d ms ts = pool (d .words) ∷ marks (d .words) ms ∷ test Size (directoryFits (length (d .lists)) ≡ true) ∷ ts
+sizesThen d ms ts =
+    test Size (length (d .words) ≤ deskLimit) ∷ marks (d .words) ms ∷ test Size (directoryFits (length (d .lists)) ≡ true) ∷ ts
 
 -- The tests of a line on a desk. A line that is not read has 11 alone.
 abbrev pub lineRow : Desk → List ℕ → Parsed → List Test

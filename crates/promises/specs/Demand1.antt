@@ -1,6 +1,6 @@
--- Demand 1: any words, ends, cursor, node and marks are handed to any call, any line to any desk, any bytes to the C entry. It does
+-- Demand 1: any words, ends, cursor, node and marks are handed to any call, any line to any desk, anything to the C entries. It does
 -- its edit, or it is refused with the number of the first test of its row that fails; and refused, it has changed nothing but marks.
-use Prim.Native.Nat.{ℕ, _*_, _≤_}
+use Prim.Native.Nat.{ℕ, _*_, _<_, _≤_}
 use mathlib.Core.Path.{_≡_}
 use mathlib.Core.Logic.{_≢_, _⊎_}
 use mathlib.Core.Bool.{true}
@@ -13,9 +13,9 @@ use Rattle.answers.specs.declared.Answer.the-variants.{Refused}
 use Rattle.answers.specs.Answer.{number, isRefused}
 use Rattle.ends.specs.declared.Ends.{Ends}
 use Rattle.walk.specs.Marks.{Marking, marking}
-use Rattle.table.specs.Calls.{clear}
+use Rattle.table.specs.Calls.{Call, walk, clear, audit}
 use Rattle.table.specs.Table.{Test, test, FirstFailing, row}
-use Rattle.table.specs.Refused.{marksAfter, marksUnder, AllCalls}
+use Rattle.table.specs.Refused.{followsChain, marksAfter, marksUnder, AllCalls}
 use Rattle.table.specs.Lowest.{Names}
 use Rattle.lines.specs.declared.line.Order.{Order}
 use Rattle.lines.specs.declared.line.Parsed.{Parsed}
@@ -27,6 +27,7 @@ use Rattle.desk.specs.Step.{Desk, DeskStepped, step}
 use Rattle.lent_desk.specs.Lent.{Lent, lent, deskOf, lentStep}
 use Rattle.batch_desk.specs.Step.{noMarks, batchStep}
 use Rattle.rewzhanok.specs.Entry.{entered, entryTest, entryOf}
+use Rattle.rewzhanok_pools.specs.Entries.{Entered, noRoom, walkEntry, auditEntry}
 use Rattle.promises.specs.Commands.{lineRow, lineFollows, workRow}
 
 -- The number is that of the first test that fails, and 0 if none does.
@@ -71,6 +72,13 @@ pub record AtEntry (cs out : List ℕ) : Type 0 where
   pub tests : FirstFailing (test NoRoom (length cs ≤ 65536) ∷ test NoRoom (11 * length (linesOf cs) ≤ length out) ∷ []) (entryTest cs out)
   pub unchanged : isRefused (entryTest cs out) ≡ true → entryOf cs out ≡ entered out 4294967295
 
+-- A C entry over a pool that makes the call c and has k numbers for the caller: 12, and then the row of the call. Without room nothing
+-- is changed; refused by the call, nothing but marks, and the numbers are the call's.
+pub record AtPool (k : ℕ) (ws ms ns : List ℕ) (c : Call) (s : Entered) : Type 0 where
+  pub tests : FirstNumber (test NoRoom (k ≤ length ns) ∷ row ws ms c) (s .answer)
+  pub no-room : length ns < k → s ≡ noRoom ms ns
+  pub marks : s .answer ≢ 0 → s .marks ≡ marksAfter (followsChain c) (s .answer) ms
+
 -- All of it.
 pub record Demand1 : Type 0 where
   pub calls : AllCalls
@@ -82,3 +90,5 @@ pub record Demand1 : Type 0 where
   pub lent-desk : (s : Lent) (p : Parsed) → OnLent s p
   pub batch-desk : (d : Desk) (p : Parsed) → OnBatch d p
   pub entry : (cs out : List ℕ) → AtEntry cs out
+  pub walk-entry : (ws ms ns : List ℕ) (e : Ends) → AtPool 1 ws ms ns (walk e) (walkEntry ws e ms ns)
+  pub audit-entry : (ws ms ns : List ℕ) (es : List Ends) → AtPool 4 ws ms ns (audit es) (auditEntry ws es ms ns)

@@ -6,14 +6,14 @@ use mathlib.Core.Bool.{true, false}
 use mathlib.Core.List.{List, map, reverse}
 use lib.Bits.{bitXor}
 use lib.ListN.{length, getD}
-use Rattle.words.specs.Names.{poolFits, isLinked}
+use Rattle.words.specs.Names.{isLinked}
 use Rattle.words.specs.Listing.{Listing}
 use Rattle.words.specs.Afresh.{afreshAll}
 use Rattle.cursor.specs.Plain.{nodes, TrueAt}
 use Rattle.words.specs.Names.{directoryLimit}
 use Rattle.lines.specs.declared.line.Parsed.{Parsed}
 use Rattle.lines.specs.Lines.{lineOf}
-use Rattle.desk.specs.Step.{Desk, DeskStepped, freshDesk, rowAt, step}
+use Rattle.desk.specs.Step.{Desk, DeskStepped, freshDesk, deskLimit, rowAt, step}
 use Rattle.history.specs.History.{History, PlainStepped, placeAt, times, onLists, start, plainStep}
 use Rattle.history.specs.Follows.{unlinkedBut, isClear, isReversal}
 use Rattle.history.specs.Runs.{MarkedLine, AllMarked, deskAfter, historyAfter, neverAnswered}
@@ -53,14 +53,14 @@ pub record AfterLine (n : ℕ) (before : Desk) (line : Parsed) (s : DeskStepped)
 -- For every desk within the limits, after any lines gs, whatever marks are lent, at the next line v.
 abbrev pub EveryDesk : Type 0
 EveryDesk =
-    (n k : ℕ) → poolFits n ≡ true → k ≤ directoryLimit → (gs : List MarkedLine) → AllMarked n gs → (v : MarkedLine) → length (v .marks) ≡ n
+    (n k : ℕ) → n ≤ deskLimit → k ≤ directoryLimit → (gs : List MarkedLine) → AllMarked n gs → (v : MarkedLine) → length (v .marks) ≡ n
     → AfterLine n (deskAfter (freshDesk n k) gs) (lineOf (v .line)) (step (deskAfter (freshDesk n k) gs) (v .marks) (lineOf (v .line)) .result)
     (plainStep n (historyAfter n (start k) gs) (lineOf (v .line)))
 
 -- The same for slices that are lent fresh, and that hold the desk from call to call, whatever marks are lent for each.
 abbrev pub EveryLentDesk : Type 0
 EveryLentDesk =
-    (n k : ℕ) → poolFits n ≡ true → k ≤ directoryLimit → (s : Lent) → FreshSlices n k s
+    (n k : ℕ) → n ≤ deskLimit → k ≤ directoryLimit → (s : Lent) → FreshSlices n k s
     → (gs : List MarkedLine) → AllMarked n gs → (v : MarkedLine) → length (v .marks) ≡ n
     → AfterLine n (deskOf (slicesAfter s gs)) (lineOf (v .line)) (heldAfter (slicesAfter s gs) v) (plainStep n (historyAfter n (start k) gs) (lineOf (v .line)))
 

@@ -10,7 +10,7 @@ use Rattle.words.specs.declared.names.Found.the-variants.{At, Nothing}
 
 -- The most nodes that a pool may have. No other definition says so.
 unfoldable pub poolLimit : ℕ
-poolLimit = 4096
+poolLimit = 1000000
 
 -- A pool of n nodes is within the limit.
 unfoldable pub poolFits : ℕ → Bool

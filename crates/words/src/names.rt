@@ -15,7 +15,7 @@ pub enum Found {
 }
 
 // The most nodes that a pool may have.
-const POOL_LIMIT: usize = 4096;
+const POOL_LIMIT: usize = 1_000_000;
 
 // The most lists that a directory may have.
 const DIRECTORY_LIMIT: usize = 64;

@@ -6,6 +6,8 @@
 //! assert_eq!(answers, b"00ffffffff\n000005ffff\n");
 //! ```
 
+pub mod pools;
+
 use std::fmt;
 
 /// The greatest number of command bytes that one call takes.

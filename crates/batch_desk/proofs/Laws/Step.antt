@@ -9,7 +9,7 @@ use lib.Dec.{leb, ltb, eqb, lit<}
 use lib.ListN.{length, getD, set, length-map}
 use lib.Seq.{set-getD}
 use borrow.Author.Tests.{ltb-true, leb-true, leb-false, lt-ltb, le-ltb, eq-eqb, ne-eqb}
-use Rattle.words.specs.Names.{poolLimit, poolFits, directoryLimit, directoryFits}
+use Rattle.words.specs.Names.{directoryLimit, directoryFits}
 use Rattle.words.specs.Pool.{Outcome, outcome}
 use Rattle.answers.specs.declared.Refusal.the-variants.{Size, NoSuchList, Malformed}
 use Rattle.ends.specs.declared.Ends.{Ends}
@@ -28,7 +28,7 @@ use Rattle.desk.specs.declared.Row.{Row}
 use Rattle.desk.specs.declared.Worked.{Worked}
 use Rattle.desk.specs.Work.{row}
 use Rattle.desk.specs.Reply.{replyTo, replyToAudit, replyUnread}
-use Rattle.desk.specs.Step.{Desk, DeskStepped, deskStepped, freshRow, rowAt, putRow, putWords, endsOfAll, deskFits, listsThere, command, putBack, audited, unread}
+use Rattle.desk.specs.Step.{Desk, DeskStepped, deskStepped, freshRow, rowAt, putRow, putWords, endsOfAll, deskLimit, deskFits, listsThere, command, putBack, audited, unread}
 use Rattle.batch_desk.specs.declared.BatchDesk.{BatchDesk}
 use Rattle.batch_desk.specs.Step.{zipRows, deskOf, keptOf, noMarks, batchStep}
 use Rattle.batch_desk.specs.Steps.{unmarking, rowsStepped, namedList, otherList, answeredBy, stepRows, batchTested}
@@ -124,7 +124,7 @@ unchanged d l m a = rw (set-getD (d .lists) m freshRow, set-getD (d .lists) l fr
 
 module _ (d : Desk) (hw : length (d .words) ≡ 1024) (he : length (d .lists) ≡ 8) where
   fits : deskFits d noMarks ≡ true
-  unfolding deskFits sizesFit poolFits poolLimit directoryFits directoryLimit noMarks
+  unfolding deskFits deskLimit directoryFits directoryLimit noMarks
   fits = rw (hw, he)
 
   listed : (o : Order) (t : Bool) → ltb (o .list) 8 && ltb (o .other) 8 ≡ t → listsThere d o ≡ t

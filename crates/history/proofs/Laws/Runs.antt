@@ -6,7 +6,7 @@ use Prim.Native.Nat.{ℕ, zero, suc, _+_, _≤_}
 use native.Mathlib.Omega.{arith}
 use lib.Dec.{eqb, ltb}
 use lib.ListN.{length, set, replicate, length-set, length-replicate, getD-replicate}
-use Rattle.words.specs.Names.{poolFits, isLinked}
+use Rattle.words.specs.Names.{isLinked}
 use Rattle.cursor.specs.Plain.{Place, atNull}
 use Rattle.words.specs.Names.{directoryLimit}
 use Rattle.lines.specs.declared.line.Parsed.{Parsed}
@@ -14,7 +14,7 @@ use Rattle.lines.specs.declared.line.Parsed.the-variants.{Right, Malformed as W
 use Rattle.lines.specs.Lines.{lineOf, tested}
 use Rattle.lines.specs.declared.answer.Reply.{Reply}
 use Rattle.desk.specs.declared.Row.{Row}
-use Rattle.desk.specs.Step.{Desk, freshRow, freshDesk, step}
+use Rattle.desk.specs.Step.{Desk, freshRow, freshDesk, deskLimit, step}
 use Rattle.history.specs.History.{History, PlainStepped, times, onLists, held, isHeld, start, plainPutBack, plainStepTested, plainStep}
 use Rattle.history.specs.Follows.{Agrees, Follows}
 use Rattle.history.specs.Runs.{MarkedLine, AllMarked, deskAfter, historyAfter, plainAnswers, answerAll}
@@ -73,13 +73,13 @@ step-lists n h p = tested-lists n h (tested p)
 
 -- ---- after any lines
 
-module _ (n : ℕ) (f : poolFits n ≡ true) where
+module _ (n : ℕ) (small : n ≤ deskLimit) where
   pub after-agrees : (gs : List MarkedLine) (d : Desk) (h : History) → length (h .places) ≤ directoryLimit → AllMarked n gs → Agrees n d h
       → Agrees n (deskAfter d gs) (historyAfter n h gs) × (length (historyAfter n h gs .places) ≡ length (h .places))
   unfolding deskAfter historyAfter
   after-agrees [] d h few m g = (g, refl)
   after-agrees (v ∷ gs) d h few m g =
-      let s = step-follows n d (v .marks) h g f few (m .0) (lineOf (v .line)) in
+      let s = step-follows n d (v .marks) h g small few (m .0) (lineOf (v .line)) in
       let e = step-lists n h (lineOf (v .line)) in
       let k = after-agrees gs _ (plainStep n h (lineOf (v .line)) .history) (rw e few) (m .1) (s .agrees) in
       (k .0, k .1 ∙ e)
@@ -91,7 +91,7 @@ module _ (n : ℕ) (f : poolFits n ≡ true) where
   unfolding start
   each-line k few gs m v mv =
       let s = after-agrees gs (freshDesk n k) (start k) (rw (length-replicate {A = Place} k (atNull [])) few) m (fresh-agrees n k) in
-      step-follows n _ (v .marks) _ (s .0) f (rw (s .1, length-replicate {A = Place} k (atNull [])) few) mv (lineOf (v .line))
+      step-follows n _ (v .marks) _ (s .0) small (rw (s .1, length-replicate {A = Place} k (atNull [])) few) mv (lineOf (v .line))
 
   -- the answers are the history's
   answers-from : (ms : List ℕ) → length ms ≡ n → (ps : List Parsed) (d : Desk) (h : History) → length (h .places) ≤ directoryLimit → Agrees n d h
@@ -99,7 +99,7 @@ module _ (n : ℕ) (f : poolFits n ≡ true) where
   unfolding answerAll plainAnswers
   answers-from ms long [] d h few g = refl
   answers-from ms long (p ∷ ps) d h few g =
-      let s = step-follows n d ms h g f few long p in
+      let s = step-follows n d ms h g small few long p in
       let e = step-lists n h p in
       ap (λ (r : Reply). r ∷ answerAll (step d ms p .result .desk) ms ps) (s .reply)
       ∙ ap (λ (rs : List Reply). plainStep n h p .reply ∷ rs) (answers-from ms long ps _ (plainStep n h p .history) (rw e few) (s .agrees))

@@ -25,7 +25,6 @@ use Rattle.cursor.specs.declared.Cursor.{Cursor}
 use Rattle.cursor.specs.Cursor.{nullCursor}
 use Rattle.cursor.specs.Plain.{Place, at, atNull, Sound}
 use Rattle.walk.specs.Marks.{Marking, marking}
-use Rattle.walk.proofs.Laws.Calls.{sizes-fit}
 use Rattle.lines.specs.declared.line.Order.{Order}
 use Rattle.lines.specs.declared.line.Parsed.{Parsed}
 use Rattle.lines.specs.declared.line.Parsed.the-variants.{Right, Malformed as Wrong}
@@ -37,7 +36,8 @@ use Rattle.desk.specs.declared.Worked.{Worked}
 use Rattle.desk.specs.Work.{row, worked, byCode, onRows, clearing}
 use Rattle.lines.specs.Answers.{reply}
 use Rattle.desk.specs.Reply.{shown, replyTo, replyUnread}
-use Rattle.desk.specs.Step.{Desk, DeskStepped, deskStepped, rowAt, deskFits, listsThere, command, putBack, audited, unread, stepTested, step}
+use Rattle.desk.specs.Step.{Desk, DeskStepped, deskStepped, rowAt, deskLimit, deskFits, listsThere, command, putBack, audited, unread, stepTested, step}
+use Rattle.desk.proofs.Laws.Limit.{desk-in-pool}
 use Rattle.history.specs.History.{History, PlainWorked, PlainStepped, plainWorked, plainStepped, placeAt, times, size, under, plainReplyTo, plainByCode, plainCommand, plainPutBack, plainStepTested, plainStep}
 use Rattle.history.specs.Follows.{Agrees, Follows, isClear, isReversal}
 use Rattle.history.proofs.Laws.Agrees.{desk', history'}
@@ -55,7 +55,10 @@ under-is ws e c (at L x R) s =
     rw (s .place .0, name-is (length ws) x r, node-name x)
 under-is ws e c (atNull xs) s = rw (s .place .0, null-is-none (length ws))
 
-module _ (n : ℕ) (d : Desk) (ms : List ℕ) (h : History) (g : Agrees n d h) (f : poolFits n ≡ true) (few : length (h .places) ≤ directoryLimit) (long : length ms ≡ n) where
+module _ (n : ℕ) (d : Desk) (ms : List ℕ) (h : History) (g : Agrees n d h) (small : n ≤ deskLimit) (few : length (h .places) ≤ directoryLimit) (long : length ms ≡ n) where
+  f : poolFits n ≡ true
+  f = desk-in-pool n small
+
   -- a line that changes nothing
   quiet : (p : Parsed) (r : Reply) → Follows n d p (deskStepped d r) (plainStepped h r)
   quiet p r =
@@ -160,7 +163,12 @@ module _ (n : ℕ) (d : Desk) (ms : List ℕ) (h : History) (g : Agrees n d h) (
 
   fits : deskFits d ms ≡ true
   unfolding deskFits directoryFits
-  fits = rw (sizes-fit (d .words) ms (rw (g .long) f) (long ∙ sym (g .long)), le-leb (length (d .lists)) directoryLimit (rw (g .lists) few))
+  fits =
+      rw (
+        le-leb (length (d .words)) deskLimit (rw (g .long) small),
+        eq-eqb (length ms) (length (d .words)) (long ∙ sym (g .long)),
+        le-leb (length (d .lists)) directoryLimit (rw (g .lists) few),
+      )
 
   audits : (p : Parsed) → Follows n d p (audited d ms .result) (plainStepped h (reply 0 (size (h .places)) (length (h .stranded))))
   unfolding audited

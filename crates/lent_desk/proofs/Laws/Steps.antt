@@ -4,14 +4,14 @@ use mathlib.Core.Bool.{Bool, true, false, _&&_, not}
 use mathlib.Core.List.{List}
 use Prim.Native.Nat.{ℕ, _≤_}
 use native.Mathlib.Omega.{arith}
-use lib.Dec.{ltb, eqb}
+use lib.Dec.{ltb, leb, eqb}
 use lib.ListN.{length, getD, set}
 use borrow.Author.Tests.{not-true, not-false, leb-true, eq-eqb, ne-eqb}
-use Rattle.words.specs.Names.{poolFits, directoryLimit, directoryFits}
+use Rattle.words.specs.Names.{directoryLimit, directoryFits}
 use Rattle.words.specs.Pool.{outcome}
 use Rattle.words.proofs.Laws.Cases.{both}
 use Rattle.answers.specs.declared.Refusal.the-variants.{Size, NoSuchList, Malformed}
-use Rattle.walk.specs.Marks.{sizesFit, Marking, marking}
+use Rattle.walk.specs.Marks.{Marking, marking}
 use Rattle.lines.specs.declared.line.Order.{Order}
 use Rattle.lines.specs.declared.line.Parsed.{Parsed}
 use Rattle.lines.specs.declared.line.Parsed.the-variants.{Right, Malformed as Wrong}
@@ -20,7 +20,7 @@ use Rattle.lines.specs.declared.answer.Reply.{Reply}
 use Rattle.desk.specs.declared.Row.{Row}
 use Rattle.desk.specs.declared.Worked.{Worked}
 use Rattle.desk.specs.Reply.{replyTo, replyUnread}
-use Rattle.desk.specs.Step.{deskStepped, freshRow, deskFits, listsThere, command, putBack, audited, unread}
+use Rattle.desk.specs.Step.{deskStepped, freshRow, deskLimit, deskFits, listsThere, command, putBack, audited, unread}
 use Rattle.rows.specs.Rows.{rowsOf, laid}
 use Rattle.rows.proofs.Laws.Rows.{laid-own, laid-two}
 use Rattle.lent_desk.specs.Lent.{Lent, lent, LentStepped, lentStepped, deskOf, leftBy, lentStep}
@@ -57,16 +57,16 @@ tested-first s p q r t e f h = rw (← e, f) h
 -- ---- a right line, by its tests
 
 module _ (s : Lent) (o : Order) (k : ℕ) (few : k ≡ length (rowsOf (s .lists))) (b : Bool)
-    (fit : b ≡ ((poolFits (length (s .words)) && eqb (length (s .marks)) (length (s .words))) && directoryFits k)) where
+    (fit : b ≡ ((leb (length (s .words)) deskLimit && eqb (length (s .marks)) (length (s .words))) && directoryFits k)) where
   fits : deskFits (deskOf s) (s .marks) ≡ b
-  unfolding deskFits sizesFit deskOf
+  unfolding deskFits deskOf
   fits = rw (← few) (sym fit)
 
   -- so that an audit has room for the ends
   pub few-lists : not b ≡ false → length (rowsOf (s .lists)) ≤ 64
   unfolding directoryFits directoryLimit
   few-lists h =
-      let p = poolFits (length (s .words)) && eqb (length (s .marks)) (length (s .words)) in
+      let p = leb (length (s .words)) deskLimit && eqb (length (s .marks)) (length (s .words)) in
       let t = both p (directoryFits k) (sym fit ∙ not-false b h) .1 in
       let l = leb-true k 64 t in omega arith
 

@@ -6,14 +6,14 @@ use native.Mathlib.Omega.{arith}
 use lib.Dec.{lit≤}
 use lib.ListN.{length, drop, length-append, length-map}
 use borrow.Author.Tests.{le-leb, lt-leb}
-use Rattle.words.specs.Names.{poolLimit, poolFits, directoryLimit}
+use Rattle.words.specs.Names.{directoryLimit}
 use Rattle.lines.specs.declared.line.Line.{Line}
 use Rattle.lines.specs.declared.line.Parsed.{Parsed}
 use Rattle.lines.specs.Lines.{lineOf, fresh}
 use Rattle.lines.specs.Inputs.{linesOf}
 use Rattle.lines.specs.Answers.{reply, answerLine}
 use Rattle.lines.specs.declared.answer.Reply.{Reply}
-use Rattle.desk.specs.Step.{DeskStepped, deskStepped, freshDesk}
+use Rattle.desk.specs.Step.{DeskStepped, deskStepped, freshDesk, deskLimit}
 use Rattle.history.specs.History.{History, start, plainStep}
 use Rattle.history.specs.Runs.{answerAll, plainAnswers}
 use Rattle.history.proofs.Laws.Runs.{answers-are}
@@ -46,8 +46,8 @@ answers-length cs =
 -- ---- the desk's answers are the history's
 
 answers-told : (ps : List Parsed) → answerAll (freshDesk 1024 8) noMarks ps ≡ plainAnswers 1024 (start 8) ps
-unfolding poolFits poolLimit directoryLimit noMarks
-answers-told ps = answers-are 1024 refl 8 (lit≤ tt) noMarks refl ps
+unfolding deskLimit directoryLimit noMarks
+answers-told ps = answers-are 1024 (lit≤ tt) 8 (lit≤ tt) noMarks refl ps
 
 -- ---- the call, by what it comes to
 

@@ -20,12 +20,6 @@ shared-slice-read-item c = search needs
 value-requires : tie.Need-value-requires Inv-loop μ-loop
 value-requires c κs = search needs
 
-add-value : tie.Need-add-value Inv-loop μ-loop
-add-value c = search needs
-
-value-requires-2 : tie.Need-value-requires-2 Inv-loop μ-loop
-value-requires-2 c κs = search needs
-
 item-requires : tie.Need-item-requires Inv-loop μ-loop
 item-requires c κs = search needs
 
@@ -53,8 +47,6 @@ line-spec =
     loop-holds
     shared-slice-read-item
     value-requires
-    add-value
-    value-requires-2
     item-requires
     wrapping-add-usize-requires
     add-i

@@ -1,14 +1,16 @@
 -- `marks` ends: each turn stores one more mark.
+use mathlib.Core.Path.{_≡_}
 use Prim.Native.Nat.{_-_}
 use borrow.Author.Needs.{needs}
+use lib.ListN.{length, length-set}
 use Rattle.garbage.proofs.args.marks.Statement.{statement}
 use Rattle.garbage.proofs.args.marks.Tie as tie
 
 abbrev Inv-loop : tie.InvT-loop
-Inv-loop line m₀ i₀ m i = Unit {0}
+Inv-loop s₀ line n i₀ s i = length s ≡ length s₀
 
 abbrev μ-loop : tie.MeasureT-loop
-μ-loop line m₀ i₀ m i = 8 - i
+μ-loop s₀ line n i₀ s i = length s₀ - i
 
 loop-holds : tie.Need-loop-holds Inv-loop μ-loop
 loop-holds c = search needs
@@ -16,11 +18,11 @@ loop-holds c = search needs
 number-requires : tie.Need-number-requires Inv-loop μ-loop
 number-requires c κs = search needs
 
-cast-m : tie.Need-cast-m Inv-loop μ-loop
-cast-m c = search needs
+cast-s : tie.Need-cast-s Inv-loop μ-loop
+cast-s c = search needs
 
-array-write-m : tie.Need-array-write-m Inv-loop μ-loop
-array-write-m c = search needs
+slice-write-s : tie.Need-slice-write-s Inv-loop μ-loop
+slice-write-s c = search needs
 
 add-i : tie.Need-add-i Inv-loop μ-loop
 add-i c = search needs
@@ -29,7 +31,10 @@ loop-less : tie.Need-loop-less Inv-loop μ-loop
 loop-less c = search needs
 
 loop-again : tie.Need-loop-again Inv-loop μ-loop
-loop-again c = search needs
+loop-again c = simp length-set (search needs)
+
+same-length : tie.Need-same-length Inv-loop μ-loop
+same-length c = search needs
 
 returns : tie.Need-returns Inv-loop μ-loop
 returns c = search needs
@@ -42,9 +47,10 @@ marks-spec =
     μ-loop
     loop-holds
     number-requires
-    cast-m
-    array-write-m
+    cast-s
+    slice-write-s
     add-i
     loop-less
     loop-again
+    same-length
     returns)

@@ -1,14 +1,16 @@
 -- `words` ends: each turn stores one more word.
+use mathlib.Core.Path.{_≡_}
 use Prim.Native.Nat.{_-_}
 use borrow.Author.Needs.{needs}
+use lib.ListN.{length, length-set}
 use Rattle.garbage.proofs.args.words.Statement.{statement}
 use Rattle.garbage.proofs.args.words.Tie as tie
 
 abbrev Inv-loop : tie.InvT-loop
-Inv-loop line argument apart count none w₀ after₀ i₀ w after i = Unit {0}
+Inv-loop s₀ line argument apart none n after₀ i₀ s after i = length s ≡ length s₀
 
 abbrev μ-loop : tie.MeasureT-loop
-μ-loop line argument apart count none w₀ after₀ i₀ w after i = 9 - i
+μ-loop s₀ line argument apart none n after₀ i₀ s after i = length s₀ - i
 
 loop-holds : tie.Need-loop-holds Inv-loop μ-loop
 loop-holds c = search needs
@@ -16,11 +18,11 @@ loop-holds c = search needs
 word-requires : tie.Need-word-requires Inv-loop μ-loop
 word-requires c κs = search needs
 
-mul-w : tie.Need-mul-w Inv-loop μ-loop
-mul-w c = search needs
+mul-s : tie.Need-mul-s Inv-loop μ-loop
+mul-s c = search needs
 
-array-write-w : tie.Need-array-write-w Inv-loop μ-loop
-array-write-w c = search needs
+slice-write-s : tie.Need-slice-write-s Inv-loop μ-loop
+slice-write-s c = search needs
 
 wrapping-add-usize-requires : tie.Need-wrapping-add-usize-requires Inv-loop μ-loop
 wrapping-add-usize-requires c κs = search needs
@@ -32,7 +34,10 @@ loop-less : tie.Need-loop-less Inv-loop μ-loop
 loop-less c = search needs
 
 loop-again : tie.Need-loop-again Inv-loop μ-loop
-loop-again c = search needs
+loop-again c = simp length-set (search needs)
+
+same-length : tie.Need-same-length Inv-loop μ-loop
+same-length c = search needs
 
 returns : tie.Need-returns Inv-loop μ-loop
 returns c = search needs
@@ -45,10 +50,11 @@ words-spec =
     μ-loop
     loop-holds
     word-requires
-    mul-w
-    array-write-w
+    mul-s
+    slice-write-s
     wrapping-add-usize-requires
     add-i
     loop-less
     loop-again
+    same-length
     returns)

@@ -8,7 +8,7 @@ abbrev Inv-loop : tie.InvT-loop
 Inv-loop line letters code₀ code = Unit {0}
 
 abbrev μ-loop : tie.MeasureT-loop
-μ-loop line letters code₀ code = 60 - code
+μ-loop line letters code₀ code = 62 - code
 
 loop-holds : tie.Need-loop-holds Inv-loop μ-loop
 loop-holds c = search needs

@@ -14,8 +14,8 @@ abbrev μ-loop : tie.MeasureT-loop
 loop-holds : tie.Need-loop-holds Inv-loop μ-loop
 loop-holds c = search needs
 
-word-requires : tie.Need-word-requires Inv-loop μ-loop
-word-requires c κs = search needs
+given-requires : tie.Need-given-requires Inv-loop μ-loop
+given-requires c κs = search needs
 
 mul-equal : tie.Need-mul-equal Inv-loop μ-loop
 mul-equal c = search needs
@@ -42,7 +42,7 @@ same-spec =
     Inv-loop
     μ-loop
     loop-holds
-    word-requires
+    given-requires
     mul-equal
     shared-slice-read-equal
     add-i

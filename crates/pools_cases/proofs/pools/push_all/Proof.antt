@@ -3,8 +3,8 @@ use mathlib.Core.Path.{_≡_}
 use Prim.Native.Nat.{_-_}
 use borrow.Author.Needs.{needs}
 use lib.ListN.{length}
-use Rattle.cases.proofs.pools.push_all.Statement.{statement}
-use Rattle.cases.proofs.pools.push_all.Tie as tie
+use Rattle.pools_cases.proofs.pools.push_all.Statement.{statement}
+use Rattle.pools_cases.proofs.pools.push_all.Tie as tie
 
 abbrev Inv-loop : tie.InvT-loop
 Inv-loop words₀ n ends₀ i₀ words ends i = length words ≡ length words₀

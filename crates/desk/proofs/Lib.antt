@@ -1,0 +1,2 @@
+-- What is proved of the desk.
+pub mod Laws

@@ -1,0 +1,3 @@
+-- The laws of the C entries for lent pools.
+pub mod Entries
+pub mod Unique

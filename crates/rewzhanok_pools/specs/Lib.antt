@@ -1,0 +1,2 @@
+-- What must be believed of the C entries for lent pools.
+pub mod Entries
