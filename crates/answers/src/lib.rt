@@ -1,11 +1,13 @@
 // The refusals of document 01's table, and what an edit answers.
+#![tactic(auto)]
+
 ghost use Rattle.std.specs.Prelude.{◌≡◌};
 ghost use Rattle.answers.specs.Answer.{answer_number, is_refused, handed};
 
 use words::names::{Found, Node};
 
 // One case a row of the table, by its number.
-#[derive(Drop)]
+#[derive(Clone, Copy)]
 pub enum Refusal {
     Size,
     NoSuchList,
@@ -22,7 +24,7 @@ pub enum Refusal {
 }
 
 // What a call answers: it is done, or done and hands out a node, or refused.
-#[derive(Drop)]
+#[derive(Clone, Copy)]
 pub enum Answer {
     Done,
     Handed(Node),

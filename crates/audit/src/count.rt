@@ -7,7 +7,7 @@ ghost use Rattle.audit.specs.Steps.{counted_of};
 use words::link_ops::Link;
 
 // How many nodes have a mark, and how many have none and are linked all the same.
-#[derive(Drop)]
+#[derive(Clone, Copy)]
 pub struct Counted {
     pub on_lists: u32,
     pub stranded: u32,

@@ -1,4 +1,6 @@
 // The audit: all the lists of a directory at once, over lent words and lent marks, one byte a node.
+#![tactic(auto)]
+
 pub mod count;
 
 ghost use Rattle.std.specs.Prelude.{◌≡◌, if◌then◌else◌, nat_le};
@@ -12,7 +14,7 @@ use ends::Ends;
 use words::names::Name;
 
 // The answer; the list that a refusal names; and, done, how many nodes are on lists and how many are stranded.
-#[derive(Drop)]
+#[derive(Clone, Copy)]
 pub struct Audited {
     pub answer: Answer,
     pub list: u32,
@@ -22,7 +24,7 @@ pub struct Audited {
 
 // How far an audit has come: what it answers up to here, the list that comes next or that was refused, and whether lists
 // are walked or their ends are tested.
-#[derive(Drop)]
+#[derive(Clone, Copy)]
 struct Progress {
     answer: Answer,
     list: u8,

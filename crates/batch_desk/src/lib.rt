@@ -1,5 +1,7 @@
 // The batch desk: 1,024 words, eight lists and their cursors. It goes in and comes back by value, with its answer to the last line
 // in it. A run is over bytes that come in pieces: a line may begin in one piece and end in a later one.
+#![tactic(auto)]
+
 ghost use Rattle.std.specs.Prelude.{◌≡◌, length};
 ghost use Rattle.words.specs.Pool.{outcome};
 ghost use Rattle.audit.specs.Audit.{audit_all};
@@ -22,7 +24,7 @@ use lines::line::{Line, Order, Parsed, same_list};
 use stream::{put_reply, take_line};
 
 // The desk by value, with its answer to the line before.
-#[derive(Drop)]
+#[derive(Clone, Copy)]
 pub struct BatchDesk {
     pub words: [u32; 1024],
     pub ends: [Ends; 8],
@@ -31,7 +33,7 @@ pub struct BatchDesk {
 }
 
 // What a line leaves of the lists that it names, and its answer.
-#[derive(Drop)]
+#[derive(Clone, Copy)]
 struct RowsStepped {
     named: Row,
     other: Row,
@@ -202,7 +204,7 @@ pub fn step(mut desk: BatchDesk, line: Parsed) -> BatchDesk
 }
 
 // How far a run has come: the desk, the line that is not ended yet, and how many bytes of answers were written.
-#[derive(Drop)]
+#[derive(Clone, Copy)]
 pub struct Ran {
     pub desk: BatchDesk,
     pub line: Line,

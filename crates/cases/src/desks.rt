@@ -3,7 +3,7 @@
 use crate::{show, text};
 
 // Five words a list.
-#[derive(Drop)]
+#[derive(Clone, Copy)]
 struct Desk {
     words: [u32; 4097],
     lists: [u32; 325],

@@ -1,6 +1,8 @@
 // The limits of the rules for desks: lent desks of 4,096 nodes and 64 lists, and of one more; orders that no line says, on a
 // small desk and, without a desk, on the greatest pool and on one more. One line a call: the number that it answers, and what
 // it hands back or leaves. The expected output was worked out from the paper that sets the rules, and not from a run.
+#![tactic(auto)]
+
 mod desks;
 mod orders;
 mod show;

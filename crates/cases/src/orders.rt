@@ -9,7 +9,7 @@ use words::link_ops::LinkOps;
 use words::names::Name;
 
 // Three nodes, two lists.
-#[derive(Drop)]
+#[derive(Clone, Copy)]
 struct Small {
     words: [u32; 3],
     lists: [u32; 10],

@@ -1,4 +1,6 @@
 // A cursor by value, what the calls at a cursor hand back, and the tests that they begin with.
+#![tactic(auto)]
+
 ghost use Rattle.std.specs.Prelude.{◌≡◌, cond};
 ghost use Rattle.words.specs.Names.{is_null, decoding};
 ghost use Rattle.words.specs.Pool.{outcome};
@@ -10,7 +12,7 @@ use words::link_ops::LinkOps;
 use words::names::{Found, Name, Node};
 
 // A place on a list: the node, null for none, and its two neighbours. At null they are the tail and the head.
-#[derive(Drop)]
+#[derive(Clone, Copy)]
 pub struct Cursor {
     pub current: Name,
     pub prev: Name,
@@ -18,7 +20,7 @@ pub struct Cursor {
 }
 
 // What a call on one list hands back.
-#[derive(Drop)]
+#[derive(Clone, Copy)]
 pub struct Edited {
     pub answer: Answer,
     pub ends: Ends,
@@ -26,7 +28,7 @@ pub struct Edited {
 }
 
 // What a call on two lists hands back.
-#[derive(Drop)]
+#[derive(Clone, Copy)]
 pub struct EditedTwo {
     pub answer: Answer,
     pub ends: Ends,

@@ -1,6 +1,8 @@
 // `CursorMut`: the ends of a list with a place on it, by value, and the answer of the call that handed it back. Every call consumes
 // it and hands it back, so that calls follow each other; a call does not look at the answer of the one before. What a caller wants
 // besides is in the crate `xor_linked_list`.
+#![tactic(auto)]
+
 ghost use Rattle.std.specs.Prelude.{◌≡◌, not, length};
 ghost use Rattle.words.specs.Names.{is_null, decoding};
 ghost use Rattle.words.specs.Pool.{outcome};
@@ -19,7 +21,7 @@ use ends::Ends;
 use words::names::{Found, Node};
 
 // A list's ends, a place on it, and the last call's answer.
-#[derive(Drop)]
+#[derive(Clone, Copy)]
 pub struct CursorMut {
     pub answer: Answer,
     pub ends: Ends,
@@ -27,7 +29,7 @@ pub struct CursorMut {
 }
 
 // What a call on two lists hands back: the cursor on the one, and the ends that the other has now.
-#[derive(Drop)]
+#[derive(Clone, Copy)]
 pub struct CursorAndOther {
     pub cursor: CursorMut,
     pub other: Ends,

@@ -1,6 +1,8 @@
 // The desk as a program: command lines from standard input, of any length, to answers on standard output. What a read brings is
 // run and its answers are written before the next read. A desk, a block of input and a block of answers are all that it keeps.
 // A read or a write that fails ends it, and is told in one line on standard error.
+#![tactic(auto)]
+
 ghost use Rattle.std.specs.Prelude.{◌≤◌, ◌≡◌, length};
 ghost use Rattle.batch_desk.specs.Step.{kept_of};
 ghost use Rattle.batch_desk.specs.Run.{running, run_of, finish_of};
@@ -13,7 +15,7 @@ use lines::line::Line;
 const ROOM: usize = 720896;
 
 // After a read: the desk, the line that is not ended yet, and whether there is more to do.
-#[derive(Drop)]
+#[derive(Clone, Copy)]
 struct Next {
     desk: BatchDesk,
     line: Line,
@@ -21,7 +23,7 @@ struct Next {
 }
 
 // After a write: where the bytes that are not written yet begin, and whether to go on.
-#[derive(Drop)]
+#[derive(Clone, Copy)]
 struct Written {
     at: usize,
     more: bool,

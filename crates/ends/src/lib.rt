@@ -1,5 +1,7 @@
 // The ends of a list, which are all that there is of it beside the words of its nodes; and the two tests of fixed size that
 // every call begins with.
+#![tactic(auto)]
+
 pub mod tests;
 
 ghost use Rattle.std.specs.Prelude.{◌≡◌};
@@ -7,7 +9,7 @@ ghost use Rattle.ends.specs.Ends.{ends_of, empty_ends, is_empty, turned};
 
 use words::names::Name;
 
-#[derive(Drop)]
+#[derive(Clone, Copy)]
 pub struct Ends {
     pub head: Name,
     pub tail: Name,

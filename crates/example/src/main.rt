@@ -1,4 +1,6 @@
 // The example of README: a list over ten words of its own.
+#![tactic(auto)]
+
 use xor_linked_list::{Found, Node, XorLinkedList};
 
 // Writes a label and a node's number, or that there is none.

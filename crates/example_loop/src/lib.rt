@@ -1,4 +1,6 @@
 // A loop of a caller's own over lent words, with its proof.
+#![tactic(auto)]
+
 ghost use Rattle.std.specs.Prelude.{◌≡◌};
 ghost use Rattle.words.specs.Pool.{outcome};
 ghost use Rattle.list.specs.Lists.{list_edited};

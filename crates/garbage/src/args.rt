@@ -5,7 +5,7 @@ use cursor::Cursor;
 use ends::Ends;
 use words::names::{Name, Node};
 
-#[derive(Drop)]
+#[derive(Clone, Copy)]
 pub(crate) struct Args {
     pub(crate) ends: Ends,
     pub(crate) cursor: Cursor,

@@ -3,6 +3,8 @@
 // that is no case. The line is written again, and under it one line a call: the number that it answers, the node that it
 // hands out, the ends and the cursor that it hands back, and the words that it leaves, `same` if none changed. The
 // expected output was worked out from the paper that sets the rules, by a model of its own, and not from a run.
+#![tactic(auto)]
+
 mod args;
 mod changes;
 mod directory;

@@ -1,4 +1,6 @@
 // Inserts: a node beside the cursor's, or at the front or the back where the cursor is at null.
+#![tactic(auto)]
+
 ghost use Rattle.std.specs.Prelude.{◌≡◌};
 ghost use Rattle.words.specs.Pool.{outcome};
 ghost use Rattle.insert.specs.Inserts.{inserted_after, inserted_before, insert_after, insert_before};

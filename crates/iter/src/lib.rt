@@ -1,4 +1,6 @@
 // `Iter`: four words by value, stepping from both ends until they meet.
+#![tactic(auto)]
+
 ghost use Rattle.std.specs.Prelude.{◌≡◌};
 ghost use Rattle.iter.specs.Iter.{iter_of, over, next_back};
 
@@ -8,7 +10,7 @@ use links::xor_ops::XorLinkedListOps;
 use words::names::Name;
 
 // What is left of a list: its first and last node, and what was stepped over on each side.
-#[derive(Drop)]
+#[derive(Clone, Copy)]
 pub struct Iter {
     pub prev_head: Name,
     pub head: Name,
@@ -17,7 +19,7 @@ pub struct Iter {
 }
 
 // What a step hands back.
-#[derive(Drop)]
+#[derive(Clone, Copy)]
 pub struct Stepped {
     pub answer: Answer,
     pub iter: Iter,

@@ -1,4 +1,6 @@
 // The lent desk: words, lists and marks are the caller's slices, of any length. One line a call.
+#![tactic(auto)]
+
 ghost use Rattle.std.specs.Prelude.{◌≡◌, ◌&&◌, ◌≤◌, leb, eqb, length};
 ghost use Rattle.words.specs.Names.{directory_fits};
 ghost use Rattle.words.specs.Pool.{outcome};

@@ -3,7 +3,7 @@ ghost use Rattle.std.specs.Prelude.{◌≡◌};
 ghost use Rattle.lines.specs.Lines.{digit_of, fresh, fed, fed_all, uses_node, uses_other, uses_list, right_fields, same_list, line_of, parsed};
 
 // What a line says: command, list, other list, node.
-#[derive(Drop)]
+#[derive(Clone, Copy)]
 pub struct Order {
     pub code: u32,
     pub list: u32,
@@ -12,14 +12,14 @@ pub struct Order {
 }
 
 // What comes of a line.
-#[derive(Drop)]
+#[derive(Clone, Copy)]
 pub enum Parsed {
     Right(Order),
     Malformed,
 }
 
 // A line so far: the number that its digits make, and how many they are. 11 says that it is malformed, whatever follows.
-#[derive(Drop)]
+#[derive(Clone, Copy)]
 pub struct Line {
     pub value: u64,
     pub count: u32,

@@ -6,7 +6,7 @@ use words::link_ops::LinkOps;
 use words::names::Name;
 
 // The steps, as functions of this type.
-#[derive(Drop)]
+#[derive(Clone, Copy)]
 pub struct XorLinkedListOps;
 
 impl XorLinkedListOps {

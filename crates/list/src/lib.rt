@@ -1,5 +1,7 @@
 // Calls on a list by its ends: front, back, push, pop, take, fast clear, reverse.
 // A refused call changes nothing and hands back the ends that it was given.
+#![tactic(auto)]
+
 ghost use Rattle.std.specs.Prelude.{◌≡◌};
 ghost use Rattle.words.specs.Pool.{outcome};
 ghost use Rattle.list.specs.Lists.{list_edited, taken, at_front, at_back, push_front, push_back, pop_test, pop_front, pop_back, take, fast_clear, reversed};
@@ -10,14 +12,14 @@ use ends::Ends;
 use words::names::Node;
 
 // What a call on one list hands back.
-#[derive(Drop)]
+#[derive(Clone, Copy)]
 pub struct ListEdited {
     pub answer: Answer,
     pub ends: Ends,
 }
 
 // What a call on two lists hands back.
-#[derive(Drop)]
+#[derive(Clone, Copy)]
 pub struct Taken {
     pub answer: Answer,
     pub ends: Ends,

@@ -1,5 +1,7 @@
 // Moves and peeks: to the neighbour, past the end to null, from null to the head or the tail. Each consumes the cursor and
 // hands it back, with the ends and the answer. A refused call changes nothing.
+#![tactic(auto)]
+
 ghost use Rattle.std.specs.Prelude.{◌≡◌};
 ghost use Rattle.moves.specs.Moves.{moved_next, moved_prev, move_next, move_prev};
 

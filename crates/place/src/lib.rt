@@ -1,4 +1,6 @@
 // Places by node and claimed neighbour: `cursor_from_ptr_and_prev` and `cursor_from_ptr_and_next`.
+#![tactic(auto)]
+
 ghost use Rattle.std.specs.Prelude.{◌≡◌};
 ghost use Rattle.place.specs.Places.{claimed, claim_test, placed, place_by_prev, place_by_next};
 

@@ -3,6 +3,8 @@
 // word; records of width 256 and 257; directories of 64 lists and of 65. One line a call: the number that it answers, the node
 // that it hands out, and what it hands back; after the calls on a pool, sums of the words and of the marks that are left. The
 // expected output was worked out from the paper that sets the rules, and not from a run.
+#![tactic(auto)]
+
 mod directories;
 mod greatest;
 mod pools;

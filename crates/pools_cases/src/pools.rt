@@ -9,7 +9,7 @@ use words::names::{Found, Name, Node};
 
 // What the calls are given: the list; a cursor at its first node, again after edits, and at the last node but one once the last
 // is off; the first node, the last but one and the last; and an empty list.
-#[derive(Drop)]
+#[derive(Clone, Copy)]
 pub(crate) struct Args {
     ends: Ends,
     first: Cursor,

@@ -1,4 +1,6 @@
 // Reading: the node's own part of a flat slice of records, one a node, all of one width.
+#![tactic(auto)]
+
 ghost use Rattle.std.specs.Prelude.{◌≡◌, length};
 ghost use Rattle.records.specs.Records.{records_fit, read_test, read_at};
 

@@ -1,4 +1,6 @@
 // Remove and replace: the node under the cursor is handed out, unlinked.
+#![tactic(auto)]
+
 ghost use Rattle.std.specs.Prelude.{◌≡◌};
 ghost use Rattle.words.specs.Pool.{outcome};
 ghost use Rattle.remove.specs.Removes.{removed, remove, replaced, replace};

@@ -1,5 +1,7 @@
 // The kept answers of the source crate, replayed on the lent desk: command lines from standard input, each with its line
 // feed, run on 1,024 nodes and eight lists that are arrays of this program. host/sample made the lines and the answers.
+#![tactic(auto)]
+
 use libc::{STDIN_FILENO, STDOUT_FILENO};
 use lines::line::{Line, Parsed};
 

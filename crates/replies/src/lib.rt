@@ -1,4 +1,6 @@
 // The answer to a line, from what its command came to.
+#![tactic(auto)]
+
 ghost use Rattle.std.specs.Prelude.{◌≡◌};
 ghost use Rattle.desk.specs.Reply.{shown, reply_to, reply_to_audit, reply_unread};
 

@@ -1,4 +1,6 @@
 // The entry for a host in C: command bytes in, answer bytes out, from a fresh desk at each call.
+#![tactic(auto)]
+
 ghost use Rattle.std.specs.Prelude.{◌≡◌, cond, length};
 ghost use Rattle.lines.specs.Inputs.{lines_of};
 ghost use Rattle.rewzhanok.specs.Entry.{entered, entry_of};

@@ -1,4 +1,6 @@
 // The entries for a host in C that has pools of its own: walk and audit over its arrays.
+#![tactic(auto)]
+
 ghost use Rattle.std.specs.Prelude.{◌≡◌};
 ghost use Rattle.ends.specs.Ends.{ends_of};
 ghost use Rattle.audit.specs.Audit.{zip_ends};

@@ -1,5 +1,7 @@
 // The lists of a desk in one lent slice of words, five a list: head, tail, and its cursor's current, prev and next. A list is read
 // here and stored here, and nowhere else.
+#![tactic(auto)]
+
 ghost use Rattle.std.specs.Prelude.{◌≡◌, length, get_or, set};
 ghost use Rattle.desk.specs.Step.{fresh_row};
 ghost use Rattle.rows.specs.Rows.{rows_of, laid};

@@ -1,4 +1,6 @@
 // Splices: the whole other list goes beside the cursor's node, or to the front or the back where the cursor is at null.
+#![tactic(auto)]
+
 ghost use Rattle.std.specs.Prelude.{◌≡◌};
 ghost use Rattle.words.specs.Pool.{outcome};
 ghost use Rattle.splice.specs.Splices.{spliced_after, spliced_before, splice_after, splice_before};

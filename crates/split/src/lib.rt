@@ -1,4 +1,6 @@
 // Splits: the part beyond, or ahead of, the cursor's node moves out into the other list; at null everything does.
+#![tactic(auto)]
+
 ghost use Rattle.std.specs.Prelude.{◌≡◌};
 ghost use Rattle.words.specs.Pool.{outcome};
 ghost use Rattle.cursor.specs.Cursor.{split_test};

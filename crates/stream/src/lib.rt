@@ -1,4 +1,6 @@
 // Input and answers in pieces: the rest of a line from a place of the input, and an answer at a place of the answer bytes.
+#![tactic(auto)]
+
 ghost use Rattle.std.specs.Prelude.{◌≡◌, drop};
 ghost use Rattle.stream.specs.Stream.{placing, placed_at, take_from};
 
@@ -6,7 +8,7 @@ use lines::answer::Reply;
 use lines::line::Line;
 
 // The rest of a line: where it ended, the line feed is taken too.
-#[derive(Drop)]
+#[derive(Clone, Copy)]
 pub struct Took {
     pub line: Line,
     pub next: usize,

@@ -12,7 +12,7 @@ use ends::Ends;
 use words::link_ops::Link;
 
 // The answer, and the ends that the list has now.
-#[derive(Drop)]
+#[derive(Clone, Copy)]
 pub struct Cleared {
     pub answer: Answer,
     pub ends: Ends,

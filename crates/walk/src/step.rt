@@ -11,7 +11,7 @@ use links::xor_ops::XorLinkedListOps;
 use words::names::{Found, Name};
 
 // How the step ended, and on how many nodes it stood.
-#[derive(Drop)]
+#[derive(Clone, Copy)]
 pub struct Stood {
     pub ok: bool,
     pub count: u32,

@@ -9,7 +9,7 @@ use answers::{Answer, Refusal};
 use ends::Ends;
 
 // The answer, and the number of nodes stood on: done, they are the list's.
-#[derive(Drop)]
+#[derive(Clone, Copy)]
 pub struct Walked {
     pub answer: Answer,
     pub count: u32,

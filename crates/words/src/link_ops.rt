@@ -8,7 +8,7 @@ ghost use Rattle.words.specs.LinkOps.{linked_at, acquire_link, release_link};
 use crate::names::{Found, Name};
 
 // A packed word, out of the pool.
-#[derive(Drop)]
+#[derive(Clone, Copy)]
 pub struct Link(pub u32);
 
 impl Link {
@@ -29,7 +29,7 @@ impl Link {
 }
 
 // The steps on links that do not look at what a word is made of, as functions of this type.
-#[derive(Drop)]
+#[derive(Clone, Copy)]
 pub struct LinkOps;
 
 impl LinkOps {

@@ -3,15 +3,15 @@ ghost use Rattle.std.specs.Prelude.{◌≡◌};
 ghost use Rattle.words.specs.Names.{pool_fits, directory_fits, is_null, is_name, naming, decoding};
 
 // The number of a node: its place in the pool.
-#[derive(Drop)]
+#[derive(Clone, Copy)]
 pub struct Node(pub u32);
 
 // A word that stands for a node: null, or the node's name.
-#[derive(Drop)]
+#[derive(Clone, Copy)]
 pub struct Name(pub u32);
 
 // What decoding finds.
-#[derive(Drop)]
+#[derive(Clone, Copy)]
 pub enum Found {
     At(Node),
     Nothing,

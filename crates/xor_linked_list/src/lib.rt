@@ -1,6 +1,8 @@
 // `XorLinkedList`: the ends of a list by value, with the answer of the call that handed it back; the words are lent to each call.
 // This is the crate that a caller imports, and the only one. Each call consumes the list and hands it back, or a cursor on it; none
 // looks at the answer of the one before.
+#![tactic(auto)]
+
 ghost use Rattle.std.specs.Prelude.{◌≡◌, not};
 ghost use Rattle.words.specs.Pool.{outcome};
 ghost use Rattle.answers.specs.Answer.{answer_number, is_refused};
@@ -23,14 +25,14 @@ pub use walk::walk::Walked;
 pub use words::names::{Found, Name, Node};
 
 // A list's ends, and the last call's answer.
-#[derive(Drop)]
+#[derive(Clone, Copy)]
 pub struct XorLinkedList {
     pub answer: Answer,
     pub ends: Ends,
 }
 
 // What a call on two lists hands back: the one list, and the ends that the other has now.
-#[derive(Drop)]
+#[derive(Clone, Copy)]
 pub struct ListAndOther {
     pub list: XorLinkedList,
     pub other: Ends,
