@@ -6,7 +6,7 @@
 -- Assumes `Logic`.
 use Rattle.std.proofs.Common.{◌≡◌, ℕ, List, [], ◌∷◌, length, sym, ap, subst, MutBor}
 use seplogic.Ra.Ura.{Ura}
-use seplogic.Ra.TreeShare.{full_share}
+use base.Fraction.{full_share}
 use mir.Syntax.{Lifetime}
 use mir.Val.{Val}
 use base.Logic.{SProp, ent, sep, ex}

@@ -1,6 +1,6 @@
 -- A part of a listing: distinct nodes of the pool that are a chain between two outer names. Every edit is made of parts
 -- that are split, joined, kept, and given another outer name by one store. Assumes nothing.
-use mathlib.Core.Path.{◌≡◌, sym, ap, ◌∙◌}
+use mathlib.Core.Path.{◌≡◌, sym, ap, subst, ◌∙◌}
 use mathlib.Core.Logic.{◌≢◌}
 use mathlib.Core.List.{List, [], ◌∷◌, ◌++◌, reverse}
 use Prim.Native.Nat.{ℕ, ◌+◌, ◌<◌}
@@ -34,6 +34,18 @@ away-front (x ∷ xs) ys a = away-node x ys a.0
 pub away-back : (xs ys : List ℕ) → Apart xs ys → Away (back 0 xs) ys
 away-back [] ys a = away-null ys
 away-back (x ∷ xs) ys a = rw (back_last 0 x xs) (away-node (last_of x xs) ys (all-last (λ z. Off z ys) x xs a))
+
+-- a store leaves the pool as long as it was
+ranged-put : (ws : List ℕ) (w v : ℕ) (xs : List ℕ) → All (λ x. x < length ws) xs → All (λ x. x < length (put_at ws w v)) xs
+ranged-put ws w v =
+    all_map (λ x. x < length ws) (λ x. x < length (put_at ws w v)) (λ x h. subst (λ n. x < n) (sym (put-length ws w v)) h)
+
+-- a store at the name of the last node is a store at that node
+put-last : (f : ℕ → ℕ) (ws : List ℕ) (x : ℕ) (xs : List ℕ)
+    → put_at ws (back 0 (x ∷ xs)) (f (word_at ws (back 0 (x ∷ xs)))) ≡ set ws (last_of x xs) (f (get_or ws (last_of x xs) 0))
+put-last f ws x xs =
+    ap (λ w. put_at ws w (f (word_at ws w))) (back_last 0 x xs) ∙ put-name ws (last_of x xs) (f (word_at ws (name (last_of x xs))))
+    ∙ ap (λ w. set ws (last_of x xs) (f w)) (word-name ws (last_of x xs))
 
 module _ (word : ℕ → ℕ → ℕ) where
   pub record Part (ws : List ℕ) (p : ℕ) (xs : List ℕ) (q : ℕ) : Type 0 where
@@ -101,9 +113,9 @@ module _ (word : ℕ → ℕ → ℕ) where
   retarget-after f q q' hf ws p (x ∷ xs) h =
       record {
         distinct = h.distinct;
-        ranged = rw (put-length ws (back 0 (x ∷ xs)) _) h.ranged;
+        ranged = ranged-put ws (back 0 (x ∷ xs)) (f (word_at ws (back 0 (x ∷ xs)))) (x ∷ xs) h.ranged;
         chain =
-            rw (back_last 0 x xs, word-name ws (last_of x xs), put-name ws (last_of x xs))
+            subst (λ ws'. Chain word ws' p (x ∷ xs) q') (sym (put-last f ws x xs))
             (after-at f q q' hf ws p x xs h.distinct h.ranged h.chain);
       }
 
@@ -119,7 +131,7 @@ module _ (word : ℕ → ℕ → ℕ) where
       (record { distinct = h.distinct.1; ranged = h.ranged.1; chain = h.chain.1 }) in
       record {
         distinct = h.distinct;
-        ranged = rw (put-length ws (name x) v) h.ranged;
+        ranged = ranged-put ws (name x) v (x ∷ xs) h.ranged;
         chain = (
           rw (put-name ws x v) (get_or-set_same ws x v 0 h.ranged.0 ∙ ap g (word-name ws x ∙ h.chain.0) ∙ hg (front xs q)),
           rest.chain,

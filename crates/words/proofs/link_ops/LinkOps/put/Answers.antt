@@ -1,0 +1,16 @@
+-- `LinkOps::put` meets its contract. Assumes nothing.
+use mathlib.Core.Path.{sym, ◌∙◌}
+use Rattle.words.specs.Pool.{put_at}
+use Rattle.words.proofs.Laws.Names.{decoded, undecoded}
+use Rattle.words.proofs.link_ops.LinkOps.put.Goals as goal
+
+pub returns-in_default : goal.returns-in_default
+unfolding put_at
+returns-in_default c = rw (undecoded _ c.args.ptr (sym c.decode-found.ensures ∙ c.in_default.is))
+
+pub bounds-words-i : goal.bounds-words-i
+bounds-words-i c = (decoded _ c.args.ptr _ (sym c.decode-found.ensures ∙ c.in-At.is)).below
+
+pub returns : goal.returns
+unfolding put_at
+returns c = rw ((decoded _ c.args.ptr _ (sym c.decode-found.ensures ∙ c.in-At.is)).here, ← (decoded _ c.args.ptr _ (sym c.decode-found.ensures ∙ c.in-At.is)).node)
