@@ -56,15 +56,13 @@ fn send(output: Stdout, out: &[u8], wrote: usize) -> io::Result<()> {
         return Err(io::Error::from(ErrorKind::WriteZero));
     }
     let mut at = 0;
-    let mut turns = u64::MAX;
-    while turns > 0 && at < wrote {
+    for _ in 0..u64::MAX {
+        if wrote <= at {
+            return Ok(());
+        }
         at = put(output, out, at, wrote)?;
-        turns -= 1;
     }
-    if at < wrote {
-        return Err(io::Error::from(ErrorKind::TimedOut));
-    }
-    Ok(())
+    Err(io::Error::from(ErrorKind::TimedOut))
 }
 
 fn send_in(output: Stdout, out: &[u8; ROOM], wrote: usize) -> Result<(), Failure> {
@@ -127,39 +125,39 @@ fn answer(rt: HostRuntime) -> Result<(), Failure> {
     let mut out = [0u8; ROOM];
     let mut desk = batch_desk::fresh();
     let mut line = Line::new();
-    let mut more = true;
-    let mut turns = u64::MAX;
-    while turns > 0 && more {
+    for _ in 0..u64::MAX {
         let next = turn(rt, desk, line, &mut out)?;
-        let d = next.desk;
-        let l = next.line;
-        desk = d;
-        line = l;
-        more = next.more;
-        turns -= 1;
+        if !next.more {
+            return Ok(());
+        }
+        desk = next.desk;
+        line = next.line;
     }
     Ok(())
 }
 
-// Tells what failed, in the system's words. The number that std sets after them is left out.
-fn tell(rt: HostRuntime, failure: Failure) -> io::Result<()> {
-    let (what, error) = match failure {
-        Failure::Read(e) => ("reading standard input", e),
-        Failure::Write(e) => ("writing standard output", e),
-    };
-    let text = format!(in rt.alloc(); "{error}")?;
-    let reason = match text.as_str().split_once(" (os error ") {
+// The system's words for an error, without the number that std sets after them.
+fn words(text: &str) -> &str {
+    match text.split_once(" (os error ") {
         Some((words, _)) => words,
-        None => text.as_str(),
-    };
+        None => text,
+    }
+}
+
+// Tells in one line on standard error what failed, and why.
+fn tell(rt: HostRuntime, what: &str, error: io::Error) -> io::Result<()> {
+    let text = format!(in rt.alloc(); "{error}")?;
+    let reason = words(text.as_str());
     eprintln!(rt; "desk: {what}: {reason}")
 }
 
 fn main(rt: HostRuntime) -> ExitCode {
-    let Err(failure) = answer(rt) else {
-        return ExitCode::SUCCESS;
+    let told = match answer(rt) {
+        Ok(()) => return ExitCode::SUCCESS,
+        Err(Failure::Read(e)) => tell(rt, "reading standard input", e),
+        Err(Failure::Write(e)) => tell(rt, "writing standard output", e),
     };
     // Where standard error fails too, only the status is left to tell.
-    let _ = tell(rt, failure);
+    let _ = told;
     ExitCode::FAILURE
 }
