@@ -31,11 +31,9 @@ fn value(v: &[u32], i: usize) -> u32 {
 
 fn line(out: Stdout, format: &[u8], v: &[u32]) -> io::Result<()> {
     let mut at = 0;
-    let mut i = 0;
-    while i < format.len() {
-        let taken = item(out, format[i], value(v, at))?;
+    for b in format {
+        let taken = item(out, *b, value(v, at))?;
         at = std::num::wrapping_add_usize(at, taken);
-        i += 1;
     }
     Ok(())
 }

@@ -34,10 +34,8 @@ fn ended(out: Stdout, input: &[u8], from: usize, i: usize) -> io::Result<usize> 
 
 fn cases(out: Stdout, input: &[u8]) -> io::Result<()> {
     let mut from = 0;
-    let mut i = 0;
-    while i < input.len() {
+    for i in 0..input.len() {
         from = ended(out, input, from, i)?;
-        i += 1;
     }
     Ok(())
 }

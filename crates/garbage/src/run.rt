@@ -158,10 +158,8 @@ fn turn(out: Stdout, code: usize, letter: u8, line: &[u8]) -> io::Result<()> {
 // Every call by its number, with the letter of its kind.
 pub(crate) fn run(out: Stdout, line: &[u8]) -> io::Result<()> {
     let letters = b"feeeeellllsppaaiiirn0000000000000ssssssfeeefeeefllllllllmmddhh";
-    let mut code = 0;
-    while code < 62 {
+    for code in 0..62 {
         turn(out, code, letters[code], line)?;
-        code += 1;
     }
     Ok(())
 }

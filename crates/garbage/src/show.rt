@@ -95,11 +95,10 @@ pub(crate) fn line(
     marks: &[u8],
 ) -> io::Result<()> {
     let mut at = 0;
-    let mut i = 0;
-    while i < format.len() {
+    for b in format {
         let taken = item(
             out,
-            format[i],
+            *b,
             value(v, at),
             value(v, at % 16 + 1),
             case,
@@ -107,7 +106,6 @@ pub(crate) fn line(
             marks,
         )?;
         at = std::num::wrapping_add_usize(at, taken);
-        i += 1;
     }
     Ok(())
 }

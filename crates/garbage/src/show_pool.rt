@@ -13,10 +13,8 @@ fn given(case: &[u8], i: usize) -> u32 {
 // Whether a pool has the words of the case.
 fn same(case: &[u8], a: &[u32]) -> bool {
     let mut equal = true;
-    let mut i = 0;
-    while i < a.len() {
+    for i in 0..a.len() {
         equal = equal & (given(case, i) == a[i]);
-        i += 1;
     }
     equal
 }
@@ -41,20 +39,16 @@ fn end(out: Stdout, len: usize, sum: u64) -> io::Result<()> {
 
 fn words(out: Stdout, a: &[u32]) -> io::Result<()> {
     let mut sum = 0;
-    let mut i = 0;
-    while i < a.len() {
-        sum = element(out, a.len(), sum, a[i])?;
-        i += 1;
+    for word in a {
+        sum = element(out, a.len(), sum, *word)?;
     }
     end(out, a.len(), sum)
 }
 
 pub(crate) fn marks(out: Stdout, a: &[u8]) -> io::Result<()> {
     let mut sum = 0;
-    let mut i = 0;
-    while i < a.len() {
-        sum = element(out, a.len(), sum, line::byte(a, i) as u32)?;
-        i += 1;
+    for mark in a {
+        sum = element(out, a.len(), sum, *mark as u32)?;
     }
     end(out, a.len(), sum)
 }

@@ -34,12 +34,10 @@ fn push(out: Stdout, words: &mut [u32], n: u32, ends: Ends, node: u32) -> io::Re
 // Four moves on: from null along the list to null.
 fn forth(out: Stdout, words: &[u32], ends: Ends) -> io::Result<()> {
     let mut c = Cursor::null(ends);
-    let mut i: u32 = 0;
-    while i < 4 {
+    for _ in 0..4 {
         let r = moves::move_next(c, words, ends);
         show::edited(out, 4, r)?;
         c = r.cursor;
-        i += 1;
     }
     Ok(())
 }
@@ -47,12 +45,10 @@ fn forth(out: Stdout, words: &[u32], ends: Ends) -> io::Result<()> {
 // Four moves back.
 fn back(out: Stdout, words: &[u32], ends: Ends) -> io::Result<()> {
     let mut c = Cursor::null(ends);
-    let mut i: u32 = 0;
-    while i < 4 {
+    for _ in 0..4 {
         let r = moves::move_prev(c, words, ends);
         show::edited(out, 5, r)?;
         c = r.cursor;
-        i += 1;
     }
     Ok(())
 }

@@ -26,11 +26,9 @@ pub(crate) struct Args {
 fn push_all(words: &mut [u32]) -> Ends {
     let n = words.len();
     let mut ends = Ends::empty();
-    let mut i = 0;
-    while i < n {
+    for i in 0..n {
         let r = list::push_back(words, ends, Node((i % 4294967296) as u32));
         ends = r.ends;
-        i += 1;
     }
     ends
 }

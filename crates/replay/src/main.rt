@@ -46,10 +46,8 @@ fn replay(out: Stdout, input: &[u8]) -> io::Result<()> {
     let mut lists = [0u32; 40];
     let mut marks = [0u8; 1024];
     let mut line = Line::new();
-    let mut i = 0;
-    while i < input.len() {
-        line = take(out, &mut words, &mut lists, &mut marks, line, input[i])?;
-        i += 1;
+    for b in input {
+        line = take(out, &mut words, &mut lists, &mut marks, line, *b)?;
     }
     Ok(())
 }
