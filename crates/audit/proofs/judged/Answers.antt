@@ -4,7 +4,7 @@ use Rattle.audit.proofs.judged.Goals as goal
 
 pub returns-then-ok : goal.returns-then-ok
 unfolding next_list judged_of
-returns-then-ok c = rw (c.if-ok.true, c.wrapping_add_u8.ensures)
+returns-then-ok c = rw (c.if-ok.true, c.wrapping_add_u8.ensures.value)
 
 pub returns : goal.returns
 unfolding judged_of

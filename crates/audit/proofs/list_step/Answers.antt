@@ -11,7 +11,7 @@ returns-then-is_refused c = sym (list-step-refused _ _ _ _ (sym c.is_refused.ens
 
 pub returns-then-s : goal.returns-then-s
 unfolding next_list
-returns-then-s c = ap (marking _) c.judged.ensures ∙ sym (list-step-walks _ _ _ _ (sym c.is_refused.ensures ∙ c.if-is_refused.false) c.if-s.true _ _ _ c.wrapping_add_u8-mark.ensures c.walk_list-stood.ensures)
+returns-then-s c = ap (marking _) c.judged.ensures ∙ sym (list-step-walks _ _ _ _ (sym c.is_refused.ensures ∙ c.if-is_refused.false) c.if-s.true _ _ _ c.wrapping_add_u8-mark.ensures.value c.walk_list-stood.ensures)
 
 pub returns : goal.returns
 returns c = ap (marking _) (c.judged-2.ensures ∙ ap (λ (b : Bool). judged_of c.args.s b EndsDoNotHold) c.ends_hold.ensures) ∙ sym (list-step-tests _ _ _ _ (sym c.is_refused.ensures ∙ c.if-is_refused.false) c.if-s.false)
