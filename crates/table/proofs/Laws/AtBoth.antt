@@ -22,7 +22,7 @@ use Rattle.splice.proofs.Laws.Refused.{UnchangedTwo, splice-after-unchanged, spl
 use Rattle.split.specs.Splits.{cut_after, cut_before, cut_at_null, split_after, split_before}
 use Rattle.split.proofs.Laws.Refused.{split-after-unchanged, split-before-unchanged}
 use Rattle.list.specs.declared.Taken.{Taken}
-use Rattle.list.specs.Lists.{taken, take as takeAll}
+use Rattle.list.specs.Lists.{taken, take as take_all}
 use Rattle.table.specs.Calls.{AtBoth, splice-after, splice-before, split-after, split-before}
 use Rattle.table.specs.Calls.{at-both, take, both-back, lists_back, Left, left, at_both}
 use Rattle.table.specs.Table.{Test, FirstFailing, pool, ends, empty, row, both_row}
@@ -95,7 +95,7 @@ abbrev take-tests : List ℕ → Ends → Ends → Answer
 take-tests ws e o = and_then (ends_test ws e) (need (ends_hold ws o) EndsDoNotHold (need (is_empty o) NotEmpty Done))
 
 pub take-keeps : (ws ms : List ℕ) (e o : Ends) → Keeps ws ms (take e o)
-unfolding takeAll
+unfolding take_all
 take-keeps ws ms e o =
     record {
       tests =

@@ -20,7 +20,7 @@ use Rattle.cursor.proofs.Laws.Refused.{Unchanged}
 use Rattle.moves.specs.Moves.{moved_next, moved_prev, move_next, move_prev}
 use Rattle.insert.specs.Inserts.{inserted_after, inserted_before, insert_after, insert_before}
 use Rattle.insert.proofs.Laws.Refused.{insert-after-unchanged, insert-before-unchanged}
-use Rattle.remove.specs.Removes.{removed, replaced, remove as removeAt, replace as replaceAt}
+use Rattle.remove.specs.Removes.{removed, replaced, remove as remove_at, replace as replace_at}
 use Rattle.remove.proofs.Laws.Refused.{removed-done, remove-unchanged, replace-unchanged}
 use Rattle.table.specs.Calls.{AtCursor, move-next, move-prev, remove, insert-after, insert-before, replace}
 use Rattle.table.specs.Calls.{at-cursor, cursor-back, Left, left, at_cursor}
@@ -66,8 +66,8 @@ edits : (ts : List Test) (t : Answer) (w : List ℕ) (e : Ends) (c : Cursor) (o 
     → FirstFailing ts t → FirstFailing ts (cond (is_refused t) (outcome w (edited t e c)) o).result.answer
 edits ts t w e c o d f = made {A = Outcome Edited} (λ r. r.result.answer) ts t (is_refused t) (outcome w (edited t e c)) o (λ h. h) refl d f
 
-remove_first : (ws : List ℕ) (e : Ends) (c : Cursor) → FirstFailing (cursor_row ws remove e c) (removeAt ws e c).result.answer
-unfolding removeAt
+remove_first : (ws : List ℕ) (e : Ends) (c : Cursor) → FirstFailing (cursor_row ws remove e c) (remove_at ws e c).result.answer
+unfolding remove_at
 remove_first ws e c =
     edits (cursor_row ws remove e c) (some_test (stand_test ws e c) c) ws e c (removed ws e c) (removed-done ws e c)
     (some_first (pool ws ∷ ends ws e ∷ cursor ws e c ∷ []) (stand_test ws e c) c (stand-first ws e c))
@@ -94,8 +94,8 @@ module _ (ws : List ℕ) (e : Ends) (c : Cursor) (i : Node) where
       (either {A = Outcome Edited} (λ r. r.result.answer) (is_null c.current) (outcome _ (edited Done _ _)) (outcome _ (edited Done _ _)) refl refl)
       insert-tests
 
-  replace-first : FirstFailing (cursor_row ws (replace i) e c) (replaceAt ws e c i).result.answer
-  unfolding replaceAt replaced
+  replace-first : FirstFailing (cursor_row ws (replace i) e c) (replace_at ws e c i).result.answer
+  unfolding replace_at replaced
   replace-first =
       let t = some_test (node_test ws e c i) c in
       let a = acquire_node ws t (naming i) in

@@ -1,0 +1,13 @@
+-- `pop_front` meets its contract. Assumes nothing.
+use Rattle.list.specs.Lists.{pop_front}
+use Rattle.list.proofs.pop_front.Goals as goal
+
+pub returns-then-is_refused : goal.returns-then-is_refused
+unfolding pop_front
+returns-then-is_refused c =
+    rw (c.new.ensures, ← c.pop_test-t.ensures, ← c.is_refused.ensures, c.if-is_refused.true)
+
+pub returns : goal.returns
+unfolding pop_front
+returns c =
+    rw (c.new-2.ensures, ← c.pop_test-t.ensures, ← c.is_refused.ensures, c.if-is_refused.false, ← c.null.ensures, ← c.next_place-first.ensures, ← c.unlink-r.ensures)

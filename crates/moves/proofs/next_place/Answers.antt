@@ -1,0 +1,11 @@
+-- `next_place` meets its contract. Assumes nothing.
+use Rattle.moves.specs.Moves.{moved_next}
+use Rattle.moves.proofs.next_place.Goals as goal
+
+pub returns-then-is_null : goal.returns-then-is_null
+unfolding moved_next
+returns-then-is_null c = rw (c.null.ensures, ← c.is_null.ensures, c.if-is_null.true)
+
+pub returns : goal.returns
+unfolding moved_next
+returns c = rw (c.new.ensures, c.next.ensures, ← c.is_null.ensures, c.if-is_null.false)
