@@ -40,7 +40,7 @@ REFUSED = "refused, as it must be"
 FOLLOWS = re.compile(r".*\b(was not admitted|was not checked|were not checked)\b", re.S)
 FACT = re.compile("|".join([
     r"(as printed|computed as far as they go), the two (types|sides)",
-    r"expected type `[^`]*`,? but (this|it) has type",
+    r"expected type `",  # it has another
     r"give a proof of that as the last argument, `rw",  # it leaves two sides that differ
     r"`rw`: no (occurrence|part)",
     r"`(omega|grind|search|cc|simp|arith)`: (the goal does not follow|no proof|.* did not prove|.* does not close)",
