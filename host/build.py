@@ -6,7 +6,8 @@ import subprocess
 HOST = pathlib.Path(__file__).resolve().parent
 ROOT = HOST.parent
 OUT = ROOT / "target" / "host"
-DESK = ROOT / "target" / "bin" / "desk_main"
+# The program, as `rt run` and `rt ci` leave it, and what host/archives builds.
+DESK = ROOT / "crates" / "desk_main" / "out" / "desk_main"
 LIBRARY = ROOT / "target" / "staticlib" / "librewzhanok.a"
 POOLS_LIBRARY = ROOT / "target" / "staticlib" / "librewzhanok_pools.a"
 # A sample of lines, and what the Rust crate answers to them: host/sample makes both.

@@ -1,45 +1,56 @@
 #!/usr/bin/env python3
-"""Looks at what `rt must-fail` or `rt ci` left in target/must-fail, and fails unless each edit was refused for a fact.
+"""Looks at why each wrong answer of crates/*/must-fail was refused, and fails unless a fact was missing.
 
-Use: tools/edits.py [CRATE ...]
+Use: tools/edits.py LOG                      judges what `rt ci` or `rt must-fail` said, a line for each edit, in LOG
+     tools/edits.py --try [CRATE[/EDIT] ..]   tries the edits itself, and judges what the check says of each function
 
 An edit is a wrong answer. It is worth something if the prover refuses it because something that the contract asks for is not so. If
-it only makes the proof file unfit for the code, the prover would refuse a right answer of that shape as well, and nothing is shown.
+it only makes the proof files unfit for the code, the prover would refuse a right answer of that shape as well, and nothing is shown.
 
-The first error that does not merely follow from another tells which it is:
-- a fact fails: `rw`, `omega`, `search` or `cc` do not close a need of the function, or two sides of an equation differ. Where
-  `rw` finds no occurrence, the need itself is there in the edited code: one that is not is an error of its own;
-- says nothing: a `Need-..`, a field or a name is not there, arguments are too few, or any error that this tool does not know. A need
-  or a field that is not there says so later in the log as well, for then the code has another shape.
-A function that is proved with no proof file has no error. The note that a need of it is not proved stands for one.
+An error tells which it is:
+- a fact fails: two sides of an equation differ, a tactic does not close a goal of the function, or it is not proved that what the
+  function ensures holds;
+- it follows from another, or a goal, a field or a name is not there, or it is any error that this tool does not know: it says nothing.
 
 A wrong answer to F has the label F-WHAT. It is an edit of its own, F-WHAT.edit, and must leave F unproved; or it is one of several in
 an edit that makes many functions wrong at once, since each edit costs a check of its crate. There it begins with the comment lines
     # F-WHAT: what is wrong
     # refused: F
-and each function that is named so, F or one that F calls, must be refused for a fact of its own.
+and each function that is named so, F or one that F calls, must be refused for a fact of its own. `rt ci` says one reason for each edit,
+and that is all that the gate sees. --try reads the whole of what a check says, so it sees each function; one that it does not see, since
+a function that it calls is wrong too, is tried again with its own wrong answer alone. Use it after a change of a contract or an edit: it
+takes as long as `rt ci` with nothing kept.
 """
+import concurrent.futures
+import os
 import pathlib
 import re
+import shutil
+import subprocess
 import sys
+import tempfile
 
 ROOT = pathlib.Path(__file__).resolve().parent.parent
-LOGS = ROOT / "target" / "must-fail"
+PARTS = ("src", "specs", "proofs")
 
-FOLLOWS = re.compile(r"`[^`]*` was not admitted")
+# What rt says of an edit: refused, or what else; and why.
+LINE = re.compile(r"^rt: must-fail (\w+)/(\S+)\.edit: (.*)$", re.M)
+REFUSED = "refused, as it must be"
+
+FOLLOWS = re.compile(r".*\b(was not admitted|was not checked|were not checked)\b", re.S)
 FACT = re.compile("|".join([
+    r"(as printed|computed as far as they go), the two (types|sides)",
+    r"expected type `",  # it has another
     r"give a proof of that as the last argument, `rw",  # it leaves two sides that differ
     r"`rw`: no (occurrence|part)",
-    r"`omega`: the goal does not follow",
-    r"`search`: no proof of",
+    r"`(omega|grind|search|cc|simp|arith)`: (the goal does not follow|no proof|.* did not prove|.* does not close)",
+    r"`(omega|grind|search|cc|simp|arith)` (does not close|found no|did not)",
     r"list the missing equation",  # of `cc`
-    r"(computed as far as they go|as printed), the two types",
-    r"expected type `[^`]*`, but this has type `[^`]*`\s*computed as far as they go, the two types",
     r"`[^`]*`\s*≟ `[^`]*`\s*does not hold",
+    r"it is not proved that",
 ]))
-UNFIT = re.compile(r"has no `Need-|has no field `|expected a type, but")
-# The two types differ in which place of the code, or which need, they speak of: the proof is of other code.
-PLACES = re.compile(r"the two types[^`]*`[^` ]*(?:Lts\.[A-Z][a-z]|Need-)[^` ]*`")
+UNFIT = re.compile(r"has no `|has no field `|is not in scope|exports no `|expected a type, but")
+SEARCHED = re.compile(r"no proof: .*`search` (did not prove|does not close)")
 
 
 def refused_names(edit):
@@ -59,34 +70,53 @@ def labels(name):
     return (name.split("::")[-1] + "-", snake + "-")
 
 
-class Problem:
-    """One error of a log: the file that it is in, the definition that it is about, and what it says."""
+def path_is(path, name):
+    return path == name or path.endswith("::" + name)
 
-    def __init__(self, where, text):
-        self.where = where
-        found = re.match(r"`([^`]*)`: (.*)", text, re.S)
-        self.about, self.text = found.groups() if found else ("", text)
 
-    def kind(self):
-        if FOLLOWS.match(self.text):
-            return "follows"
-        if UNFIT.search(self.text) or PLACES.search(self.text) or self.about.endswith("-spec"):
-            return "unfit"
-        return "fact" if FACT.match(self.text) else "unknown"
+def kind(said):
+    """What an error, without its place, comes to."""
+    said = re.sub(r"^`[^`]*`: ", "", said)
+    if FOLLOWS.match(said.split("\n")[0]):
+        return "follows"
+    if UNFIT.search(said.split("\n")[0]):
+        return "unfit"
+    return "fact" if FACT.match(said) else "unknown"
 
-    def short(self):
-        return f"{self.where}: `{self.about}`: {self.text.splitlines()[0][:160]}"
+
+def told_fault(said):
+    """What is wrong with the one line that rt says of an edit; None if it is a refusal for a fact."""
+    if not said.startswith(REFUSED):
+        return f"it was not refused: {said}"
+    why = said[len(REFUSED):]
+    if re.match(r" \(only", why):
+        return f"it says little: {why.strip()}"
+    found = re.match(r": (?:note: )?(?:\./)?\S+?:\d+:\d+: (?:error: )?(.*)", why)
+    if not found:
+        return "no reason is given"
+    return None if kind(found[1]) == "fact" else f"no fact: {found[1]}"
 
 
 class Log:
-    """What the prover said of an edited crate."""
+    """What a check said of an edited crate."""
 
-    def __init__(self, folder):
-        text = (folder / ".log").read_text(encoding="utf-8").replace(f"{folder}/", "")
+    def __init__(self, text):
+        self.text = text
         self.refused = re.search(r"^logic=not-proved", text, re.M) is not None
-        self.state = dict(re.findall(r"^fn \w+::(\S+): (.*)$", text, re.M))
-        self.problems = [Problem(where, said) for where, said in
-                         re.findall(r"^(\S+?):\d+:\d+: error: (.*(?:\n  .*)*)", text, re.M)]
+        self.state, self.problems, notes = {}, [], []
+        for where, said in re.findall(r"^(?:\./)?(\S+?):\d+:\d+: error: (.*(?:\n  .*)*)", text, re.M):
+            self.problems.append((where, said))
+        for line in text.splitlines():
+            if note := re.match(r"note: src/\S+: (it is not proved that .*)", line):
+                notes.append(note[1])
+            elif state := re.match(r"fn \w+::(\S+): (.*)", line):
+                self.state[state[1]] = state[2]
+                self.problems += [(self.place(state[1]), said) for said in notes]
+                notes = []
+
+    @staticmethod
+    def place(path):
+        return "proofs/" + path.replace("::", "/") + "/"
 
     def unproved(self, name):
         """The functions of that name, or label, that are not proved."""
@@ -100,52 +130,156 @@ class Log:
 
     def fault(self, path=None):
         """What is wrong with this log as a refusal for a fact, of one function if a path is given; None if it is one."""
-        place = "" if path is None else "proofs/" + path.replace("::", "/") + "/"
-        own = [p for p in self.problems if p.where.startswith(place) and p.kind() != "follows"]
-        unfit = [p for p in own if p.kind() == "unfit"]
-        if own:
-            first = unfit[0] if unfit else own[0]
-            return None if first.kind() == "fact" else first.short()
-        states = [s for p, s in self.state.items() if path in (None, p)]
-        if any(re.match(r"no proof: .*`search` does not close", s) for s in states):
+        place = "" if path is None else self.place(path)
+        own = [(kind(said), where, said) for where, said in self.problems if where.startswith(place)]
+        if any(SEARCHED.match(state) for name, state in self.state.items() if path in (None, name)):
             return None
-        return "no error of its own"
+        if any(one[0] == "fact" for one in own):
+            return None
+        telling = [one for one in own if one[0] != "follows"]
+        return f"{telling[0][1]}: {telling[0][2].splitlines()[0][:160]}" if telling else "no error of its own"
 
 
-def path_is(path, name):
-    return path == name or path.endswith("::" + name)
+def applied(text, folder):
+    """The files that an edit changes, as it leaves them; or fails with what is wrong with it."""
+    path, old, files = "", "", {}
+    for line in text.split("\n"):
+        if line.startswith("file: "):
+            path = line[6:].strip()
+            files.setdefault(path, (folder / path).read_text(encoding="utf-8"))
+        elif line.startswith("old: "):
+            old = line[5:]
+        elif line.startswith("new:"):
+            if files[path].count(old) != 1:
+                raise ValueError(f"it cannot be applied: {old!r} stands {files[path].count(old)} times in {path}")
+            files[path] = files[path].replace(old, re.sub("^ ", "", line[4:]))
+    return files
 
 
-def faults(edit):
-    """What is wrong with one edit."""
-    crate, label = edit.parts[-3], edit.stem
-    folder = LOGS / crate / label
-    if not (folder / ".log").is_file():
-        return ["it was not tried"]
-    log = Log(folder)
-    if not log.refused:
-        return ["it was not refused"]
-    named, own = refused_names(edit), answers(edit)
-    found = [f"{one} is proved all the same" for one in own if log.proves(one)]
-    if not named:
-        return found or [fault for fault in [log.fault()] if fault]
-    if own != [label] and len(own) != len(named):
-        found.append(f"{len(own)} wrong answers, and {len(named)} functions that are refused")
-    for name in named:
-        paths = log.unproved(name)
-        if not paths:
-            found.append(f"{name} is proved all the same, or is not there")
-        found += [f"{name}: {fault}" for fault in map(log.fault, paths) if fault]
-    return found
+def alone(text, name):
+    """The part of an edit that makes this function wrong, where each wrong answer has a label of its own."""
+    path, parts = "", []
+    for line in text.split("\n"):
+        if line.startswith("file: "):
+            path = line
+        elif re.match(r"# \w+-\w+:", line):
+            parts.append([path, line])
+        elif parts:
+            parts[-1].append(line)
+    parts = [part for part in parts if any(line.startswith("# refused:") and name in line.split() for line in part)]
+    return "\n".join(line for part in parts for line in part)
+
+
+class Tries:
+    """Copies of the repository in which edits are tried, over what a check of the crate as it stands proved."""
+
+    def __init__(self, room):
+        self.room, self.base = room, room / "base"
+        self.copy(ROOT / "crates", self.base)
+
+    @staticmethod
+    def copy(crates, to, kept=None):
+        """The crates, without what rt made of them; but the libraries, and what was kept of one crate."""
+        def link(one, other):
+            try:
+                os.link(one, other)
+            except OSError:
+                shutil.copy2(one, other)
+        for crate in sorted(crates.iterdir()):
+            for part in PARTS:
+                if (crate / part).is_dir():
+                    shutil.copytree(crate / part, to / "crates" / crate.name / part)
+            if kept and (crate / "out" / "rlib").is_dir():
+                shutil.copytree(crate / "out" / "rlib", to / "crates" / crate.name / "out" / "rlib", copy_function=link)
+        if kept:
+            own = f"crates/{kept}/out/incremental"
+            shutil.copytree(crates.parent / own, to / own, copy_function=lambda a, b: (link if a.endswith(".oantt") else shutil.copy2)(a, b))
+        for name in ("crates.txt", "HANDLES"):
+            if (crates.parent / name).is_file():
+                shutil.copy2(crates.parent / name, to)
+        (to / ".git").mkdir()
+
+    def check(self, root, crate, *flags):
+        done = subprocess.run(["rt", "check", *flags], cwd=root / "crates" / crate, stdin=subprocess.DEVNULL, stdout=subprocess.PIPE,
+                              stderr=subprocess.STDOUT, text=True, errors="replace")
+        return done.returncode, done.stdout
+
+    def log(self, crate, text, lane):
+        """What a check says of the crate with an edit of this text."""
+        root = self.room / f"lane{lane}"
+        shutil.rmtree(root, ignore_errors=True)
+        self.copy(self.base / "crates", root, crate)
+        folder = root / "crates" / crate
+        for path, new in applied(text, folder).items():
+            (folder / path).write_text(new, encoding="utf-8")
+        return Log(self.check(root, crate, "--jobs", "1")[1])
+
+    def faults(self, edit, lane):
+        """What is wrong with one edit."""
+        crate, label, text = edit.parts[-3], edit.stem, edit.read_text(encoding="utf-8")
+        try:
+            log = self.log(crate, text, lane)
+        except (OSError, ValueError) as reason:
+            return [str(reason)]
+        if not log.refused:
+            return ["it was not refused: " + log.text.strip()[-300:]]
+        named, own = refused_names(edit), answers(edit)
+        found = [f"{one} is proved all the same" for one in own if log.proves(one)]
+        if not named:
+            return found or [fault for fault in [log.fault()] if fault]
+        if own != [label] and len(own) != len(named):
+            found.append(f"{len(own)} wrong answers, and {len(named)} functions that are refused")
+        for name in named:
+            paths = log.unproved(name)
+            if not paths:
+                found.append(f"{name} is proved all the same, or is not there")
+            for path in paths:
+                fault = log.fault(path)
+                if fault and alone(text, name):
+                    again = self.log(crate, alone(text, name), lane)
+                    fault = again.fault(path) if again.unproved(path) else f"by itself it is proved all the same, or is not there"
+                found += [f"{name}: {fault}"] if fault else []
+        return found
+
+
+def tried(edits):
+    """Each edit with what is wrong with it, as they are tried."""
+    lanes = int(os.environ.get("RT_JOBS", 2))
+    with tempfile.TemporaryDirectory(prefix="rewzhanok-edits-") as room:
+        tries = Tries(pathlib.Path(room))
+        for crate in dict.fromkeys(edit.parts[-3] for edit in edits):
+            status, said = tries.check(tries.base, crate)
+            if status:
+                sys.exit(f"{crate} is not proved as it stands:\n{said[-2000:]}")
+            mine, free = [edit for edit in edits if edit.parts[-3] == crate], list(range(lanes))
+
+            def one(edit):
+                lane = free.pop()
+                try:
+                    return tries.faults(edit, lane)
+                finally:
+                    free.append(lane)
+            with concurrent.futures.ThreadPoolExecutor(lanes) as pool:
+                for edit, found in zip(mine, pool.map(one, mine)):
+                    print(f"{crate}/{edit.stem}: {'; '.join(found) or 'refused for a fact'}", flush=True)
+                    yield edit, found
 
 
 def main():
-    crates = sys.argv[1:] or sorted(path.name for path in (ROOT / "crates").iterdir())
-    edits = [edit for crate in crates for edit in sorted((ROOT / "crates" / crate / "must-fail").glob("*.edit"))]
-    wrong = [f"{edit.parts[-3]}/{edit.stem}: {fault}" for edit in edits for fault in faults(edit)]
+    every = sorted((ROOT / "crates").glob("*/must-fail/*.edit"))
+    if sys.argv[1:2] == ["--try"]:
+        wanted = sys.argv[2:]
+        edits = [it for it in every if not wanted or {it.parts[-3], f"{it.parts[-3]}/{it.stem}"} & {*wanted}]
+        found = list(tried(edits))
+    else:
+        edits = every
+        said = {(crate, edit): text for crate, edit, text in LINE.findall(pathlib.Path(sys.argv[1]).read_text(encoding="utf-8"))}
+        told = lambda edit: said.get((edit.parts[-3], edit.stem))
+        found = [(edit, [it for it in [told_fault(told(edit)) if told(edit) else "it was not tried"] if it]) for edit in edits]
+    wrong = [f"{edit.parts[-3]}/{edit.stem}: {fault}" for edit, faults in found for fault in faults]
     count = sum(max(len(answers(edit)), len(refused_names(edit))) for edit in edits)
     print("\n".join(wrong + [f"{len(edits)} edits, {count} wrong answers" +
-                             (f", {len(wrong)} faults" if wrong else ", each refused for a fact")]))
+                             (f", {len(wrong)} faults" if wrong else ", each edit refused for a fact")]))
     sys.exit(1 if wrong or not edits else 0)
 
 

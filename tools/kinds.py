@@ -4,7 +4,8 @@ source makes one from the other, or from a number that it computed: it fails at 
 the forms below, and at a row below that is of no use.
 
 In a form, NAME is a variable or a field that holds a name, and NUMBER is a number that is written out. Kinds go by what a variable is
-called: a node is a `node`, and what a name may be called is never declared or matched as a node.
+called: a node is a `node`, and what a name may be called is never declared or matched as a node. Comments, clauses and imports of
+definitions are not read: they make nothing that runs.
 """
 import pathlib
 import re
@@ -78,11 +79,24 @@ def blanked(text, form):
     return pattern(form).subn(lambda m: re.sub(r"\S", " ", m.group()), text)
 
 
+def code(text):
+    """The text with comments, clauses and imports of definitions blanked out."""
+    hide = lambda part: re.sub(r"\S", " ", part)
+    text = re.sub(r"//[^\n]*|^ghost use [^;]*;", lambda m: hide(m.group()), text, flags=re.M)
+    for clause in re.finditer(r"\b(?:ensures|requires)\b[^{};]*\{", text):
+        end, depth = clause.end(), 1
+        while depth:
+            depth += {"{": 1, "}": -1}.get(text[end], 0)
+            end += 1
+        text = text[:clause.start()] + hide(text[clause.start():end]) + text[end:]
+    return text
+
+
 def main():
     wrong = [f"{name}: there is no such file" for name in PLACES if not (CRATES / name).is_file()]
     for path in sorted(CRATES.glob("*/src/**/*.rt")):
         name = str(path.relative_to(CRATES))
-        text = re.sub(r"//[^\n]*", "", path.read_text(encoding="utf-8"))
+        text = code(path.read_text(encoding="utf-8"))
         for called in re.findall(r"\b(\w+): Node\b|Found::At\((\w+)\)|Answer::Handed\((\w+)\)", text):
             wrong += [f"{name}: a node is called `{c}`, as names are" for c in called if c in NAMES]
         for form in PLACES.get(name, {}):

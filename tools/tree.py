@@ -15,7 +15,7 @@ from edits import answers, labels, path_is, refused_names
 
 ROOT = pathlib.Path(__file__).resolve().parent.parent
 # The crates whose methods only pass their calls on, to functions that have their own edits.
-FORWARDING = ("cursor_mut", "xor_linked_list")
+FORWARDING = ("cursor_mut", "xor_linked_list", "rewzhanok_c", "rewzhanok_pools_c")
 wrong = []
 
 
@@ -42,7 +42,7 @@ def edits_of(crate, name):
 
 for crate in sorted((ROOT / "crates").iterdir()):
     least = 1 if crate.name in FORWARDING else 2
-    for path in sorted(crate.rglob("*")):
+    for path in sorted(path for part in ("src", "specs", "proofs") for path in (crate / part).rglob("*")):
         where = path.relative_to(ROOT)
         if path.suffix not in (".rt", ".antt"):
             continue

@@ -8,7 +8,7 @@ fn main() {
     for name in ["rewzhanok", "rewzhanok_pools"] {
         let library = folder.join(format!("lib{name}.a"));
         if !library.exists() {
-            println!("cargo:warning=target/staticlib/lib{name}.a is not built yet (rt staticlib {name})");
+            println!("cargo:warning=target/staticlib/lib{name}.a is not built yet (host/archives)");
         }
         println!("cargo:rustc-link-lib=static={name}");
         println!("cargo:rerun-if-changed={}", library.display());

@@ -40,8 +40,7 @@ fn count_lines(commands: &[u8]) -> usize
 }
 
 // Runs the commands and writes eleven bytes a line to the answers. Returns how many bytes it wrote, or refuses 12 and writes nothing.
-#[unsafe(no_mangle)]
-pub extern "C" fn rewzhanok_run(commands: &[u8], answers: &mut [u8]) -> u32
+pub fn rewzhanok_run(commands: &[u8], answers: &mut [u8]) -> u32
     ensures { entered answers.new result ≡ entry_of commands.now answers.old }
 {
     if INPUT_LIMIT < commands.len() {

@@ -16,8 +16,7 @@ const WALK_NUMBERS: usize = 1;
 const AUDIT_NUMBERS: usize = 4;
 
 // Walks the list with these ends. The number written is how many nodes it stood on.
-#[unsafe(no_mangle)]
-pub extern "C" fn rewzhanok_walk(
+pub fn rewzhanok_walk(
     words: &[u32],
     head: u32,
     tail: u32,
@@ -38,8 +37,7 @@ pub extern "C" fn rewzhanok_walk(
 
 // Audits the lists with these heads and tails. The numbers written are the list that a refusal names, the nodes on lists, the
 // stranded nodes, and 0.
-#[unsafe(no_mangle)]
-pub extern "C" fn rewzhanok_audit(
+pub fn rewzhanok_audit(
     words: &[u32],
     heads: &[u32],
     tails: &[u32],
