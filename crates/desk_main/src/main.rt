@@ -137,7 +137,7 @@ fn answer(rt: HostRuntime) -> Result<(), Failure> {
 }
 
 // The system's words for an error, without the number that std sets after them.
-fn words(text: &str) -> &str {
+fn without_number(text: &str) -> &str {
     match text.split_once(" (os error ") {
         Some((words, _)) => words,
         None => text,
@@ -147,7 +147,7 @@ fn words(text: &str) -> &str {
 // Tells in one line on standard error what failed, and why.
 fn tell(rt: HostRuntime, what: &str, error: io::Error) -> io::Result<()> {
     let text = format!(in rt.alloc(); "{error}")?;
-    let reason = words(text.as_str());
+    let reason = without_number(text.as_str());
     eprintln!(rt; "desk: {what}: {reason}")
 }
 
