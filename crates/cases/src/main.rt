@@ -8,15 +8,17 @@ mod orders;
 mod show;
 mod text;
 
+use std::io::{self, Stdout};
+
 // The cases, of which those without a desk are lent the one pool and its marks.
-fn run(words: &mut [u32; 1000001], marks: &mut [u8; 1000001]) {
-    desks::run();
-    orders::run(words, marks);
+fn run(out: Stdout, words: &mut [u32; 1000001], marks: &mut [u8; 1000001]) -> io::Result<()> {
+    desks::run(out)?;
+    orders::run(out, words, marks)
 }
 
 // The pool and its marks are 5 MB of the stack.
-fn main() {
+fn main(rt: HostRuntime) -> io::Result<()> {
     let mut words = [1u32; 1000001];
     let mut marks = [9u8; 1000001];
-    run(&mut words, &mut marks);
+    run(rt.stdout(), &mut words, &mut marks)
 }

@@ -5,6 +5,7 @@ use cursor::Cursor;
 use desk::Row;
 use ends::Ends;
 use lines::line::{Order, Parsed};
+use std::io::{self, Stdout};
 use words::link_ops::LinkOps;
 use words::names::Name;
 
@@ -17,12 +18,13 @@ struct Small {
 }
 
 // An order on the lent desk.
-fn step(order: Order, d: Small) -> Small {
+fn step(out: Stdout, order: Order, d: Small) -> io::Result<Small> {
     let mut words = d.words;
     let mut lists = d.lists;
     let mut marks = d.marks;
     let r = lent_desk::step(&mut words, &mut lists, &mut marks, Parsed::Right(order));
     show::values(
+        out,
         3,
         [
             order.code,
@@ -37,17 +39,18 @@ fn step(order: Order, d: Small) -> Small {
             0,
             0,
         ],
-    );
-    Small {
+    )?;
+    Ok(Small {
         words,
         lists,
         marks,
-    }
+    })
 }
 
 // What it leaves: words, list 0, marks.
-fn left(d: Small) {
+fn left(out: Stdout, d: Small) -> io::Result<()> {
     show::values(
+        out,
         4,
         [
             d.words[0],
@@ -62,10 +65,10 @@ fn left(d: Small) {
             d.marks[1] as u32,
             d.marks[2] as u32,
         ],
-    );
+    )
 }
 
-fn one(code: u32, list: u32, other: u32, node: u32) {
+fn one(out: Stdout, code: u32, list: u32, other: u32, node: u32) -> io::Result<()> {
     let d = Small {
         words: [4, 2, 1],
         lists: [2, 4, 2, 0, 4, 0, 0, 0, 0, 0],
@@ -77,7 +80,7 @@ fn one(code: u32, list: u32, other: u32, node: u32) {
         other,
         node,
     };
-    left(step(order, d));
+    left(out, step(out, order, d)?)
 }
 
 // List 0, with its cursor.
@@ -96,7 +99,15 @@ fn other() -> Row {
 
 // An order on so many words and on the two lists: its number, and the named list. It is the line that has the desk's limit;
 // here the pool's is tested.
-fn work(words: &mut [u32], n: u32, code: u32, list: u32, with: u32, node: u32) {
+fn work(
+    out: Stdout,
+    words: &mut [u32],
+    n: u32,
+    code: u32,
+    list: u32,
+    with: u32,
+    node: u32,
+) -> io::Result<()> {
     let order = Order {
         code,
         list,
@@ -108,6 +119,7 @@ fn work(words: &mut [u32], n: u32, code: u32, list: u32, with: u32, node: u32) {
     let e = r.named.ends;
     let c = r.named.cursor;
     show::values(
+        out,
         5,
         [
             n,
@@ -122,11 +134,11 @@ fn work(words: &mut [u32], n: u32, code: u32, list: u32, with: u32, node: u32) {
             c.prev.0,
             c.next.0,
         ],
-    );
+    )
 }
 
 // Clear, on so many words and marks.
-fn clear(words: &mut [u32], marks: &mut [u8], n: u32) {
+fn clear(out: Stdout, words: &mut [u32], marks: &mut [u8], n: u32) -> io::Result<()> {
     let r = desk::work::clear(
         text::cut(words, n as usize),
         text::cut_marks(marks, n as usize),
@@ -137,6 +149,7 @@ fn clear(words: &mut [u32], marks: &mut [u8], n: u32) {
     let e = r.named.ends;
     let c = r.named.cursor;
     show::values(
+        out,
         6,
         [
             n,
@@ -151,35 +164,35 @@ fn clear(words: &mut [u32], marks: &mut [u8], n: u32) {
             0,
             0,
         ],
-    );
+    )
 }
 
-fn works(words: &mut [u32]) {
+fn works(out: Stdout, words: &mut [u32]) -> io::Result<()> {
     let words = &mut *words;
-    work(words, 1000001, 5, 1, 1, 0);
-    work(words, 1000000, 5, 1, 1, 0);
-    work(words, 4097, 5, 1, 1, 0);
-    work(words, 1000001, 13, 0, 0, 0);
-    work(words, 1000000, 13, 0, 0, 0);
-    work(words, 1000000, 20, 0, 0, 0);
-    work(words, 1000000, 5, 1, 1, 7);
-    work(words, 1000001, 9, 0, 0, 0);
-    work(words, 1000000, 9, 0, 0, 0);
-    work(words, 4097, 9, 0, 0, 0);
+    work(out, words, 1000001, 5, 1, 1, 0)?;
+    work(out, words, 1000000, 5, 1, 1, 0)?;
+    work(out, words, 4097, 5, 1, 1, 0)?;
+    work(out, words, 1000001, 13, 0, 0, 0)?;
+    work(out, words, 1000000, 13, 0, 0, 0)?;
+    work(out, words, 1000000, 20, 0, 0, 0)?;
+    work(out, words, 1000000, 5, 1, 1, 7)?;
+    work(out, words, 1000001, 9, 0, 0, 0)?;
+    work(out, words, 1000000, 9, 0, 0, 0)?;
+    work(out, words, 4097, 9, 0, 0, 0)
 }
 
-pub(crate) fn run(words: &mut [u32], marks: &mut [u8]) {
+pub(crate) fn run(out: Stdout, words: &mut [u32], marks: &mut [u8]) -> io::Result<()> {
     let words = &mut *words;
     let marks = &mut *marks;
-    one(20, 9, 0, 0);
-    one(99, 200, 0, 0);
-    one(3, 0, 200, 0);
-    one(9, 300, 0, 0);
-    one(1, 0, 0, 70000);
-    one(9, 0, 0, 0);
+    one(out, 20, 9, 0, 0)?;
+    one(out, 99, 200, 0, 0)?;
+    one(out, 3, 0, 200, 0)?;
+    one(out, 9, 300, 0, 0)?;
+    one(out, 1, 0, 0, 70000)?;
+    one(out, 9, 0, 0, 0)?;
     LinkOps::put(words, Name(2), 4);
     LinkOps::put(words, Name(4), 2);
-    works(words);
-    clear(words, marks, 1000001);
-    clear(words, marks, 1000000);
+    works(out, words)?;
+    clear(out, words, marks, 1000001)?;
+    clear(out, words, marks, 1000000)
 }

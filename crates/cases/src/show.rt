@@ -1,25 +1,25 @@
 // Printing: what a call hands back, by a line of a table that says how, in short text on standard output.
 use crate::text;
+use std::io::{self, Stdout};
 
-fn one(b: u8) {
-    let a = [b];
-    io::write_all(1, &a);
+fn one(out: Stdout, b: u8) -> io::Result<()> {
+    out.write_all(&[b])
 }
 
 // A number after a blank.
-fn number(n: u32) {
-    one(b' ');
-    io::print_decimal(1, n as u64);
+fn number(out: Stdout, n: u32) -> io::Result<()> {
+    one(out, b' ')?;
+    out.print(n)
 }
 
 // An item of a line, from the next of the values. How many it takes is handed back.
-fn item(b: u8, n: u32) -> usize {
+fn item(out: Stdout, b: u8, n: u32) -> io::Result<usize> {
     if b == b'$' {
-        number(n);
-        return 1;
+        number(out, n)?;
+        return Ok(1);
     }
-    one(b);
-    0
+    one(out, b)?;
+    Ok(0)
 }
 
 fn value(v: &[u32], i: usize) -> u32 {
@@ -29,18 +29,17 @@ fn value(v: &[u32], i: usize) -> u32 {
     0
 }
 
-fn line(format: &[u8], v: &[u32]) {
+fn line(out: Stdout, format: &[u8], v: &[u32]) -> io::Result<()> {
     let mut at = 0;
-    let mut i = 0;
-    while i < format.len() {
-        let taken = item(format[i], value(v, at));
+    for b in format {
+        let taken = item(out, *b, value(v, at))?;
         at = std::num::wrapping_add_usize(at, taken);
-        i += 1;
     }
+    Ok(())
 }
 
 // What each line shows: $ is a number.
-pub(crate) fn values(code: usize, v: [u32; 11]) {
+pub(crate) fn values(out: Stdout, code: usize, v: [u32; 11]) -> io::Result<()> {
     let table = b"# desk: nodes$; marks$; lists$
 $$$
 left$$ |$$ |$$$
@@ -50,5 +49,5 @@ work: nodes$; order$$$$:$ |$$ |$$$
 clear: nodes$:$ |$$ |$$$
 ";
     let from = text::skip(table, 0, code);
-    line(text::part(table, from, text::skip(table, from, 1)), &v);
+    line(out, text::part(table, from, text::skip(table, from, 1)), &v)
 }

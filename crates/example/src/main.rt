@@ -1,23 +1,22 @@
 // The example of README: a list over ten words of its own.
 #![tactic(auto)]
 
+use std::io::{self, Stdout};
 use xor_linked_list::{Found, Node, XorLinkedList};
 
 // Writes a label and a node's number, or that there is none.
-fn show(label: &[u8], found: Found) {
-    io::write_all(1, label);
+fn show(out: Stdout, label: &str, found: Found) -> io::Result<()> {
     match found {
         Found::At(node) => {
-            io::print_decimal(1, node.0 as u64);
+            let number = node.0;
+            println!(out; "{label}{number}")
         }
-        Found::Nothing => {
-            io::write_all(1, b"none");
-        }
+        Found::Nothing => println!(out; "{label}none"),
     }
-    io::write_all(1, b"\n");
 }
 
-fn main() {
+fn main(rt: HostRuntime) -> io::Result<()> {
+    let out = rt.stdout();
     // Each word is 1: no node is linked.
     let mut words = [1u32; 10];
     let list = XorLinkedList::new().push_back(&mut words, Node(5));
@@ -28,12 +27,11 @@ fn main() {
     let c = c.insert_after(&mut words, Node(9));
     // 9 7. Node 5 is handed out, unlinked, and the cursor is at 9.
     let c = c.remove(&mut words);
-    show(b"handed out ", c.handed());
-    show(b"at ", c.node(10));
+    show(out, "handed out ", c.handed())?;
+    show(out, "at ", c.node(10))?;
     // Node 7 is linked already: refused, and nothing has changed.
     let c = c.insert_after(&mut words, Node(7));
-    io::write_all(1, b"refused ");
-    io::print_decimal(1, c.number() as u64);
-    io::write_all(1, b"\n");
-    show(b"at ", c.node(10));
+    let number = c.number();
+    println!(out; "refused {number}")?;
+    show(out, "at ", c.node(10))
 }

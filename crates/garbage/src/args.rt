@@ -44,23 +44,17 @@ pub(crate) fn of(line: &[u8]) -> Args {
 
 // The lent words become arguments, one or two words of the line apart.
 pub(crate) fn words(s: &mut [u32], line: &[u8], argument: usize, apart: usize, none: usize) {
-    let n = s.len();
     let mut after = 0;
-    let mut i = 0;
-    while i < n {
-        s[i] = word(line, argument, after, none);
+    for w in s.iter_mut() {
+        *w = word(line, argument, after, none);
         after = std::num::wrapping_add_usize(after, apart);
-        i += 1;
     }
 }
 
 // The lent marks become those that are given, and 9 where none is.
 pub(crate) fn marks(s: &mut [u8], line: &[u8]) {
-    let n = s.len();
-    let mut i = 0;
-    while i < n {
+    for i in 0..s.len() {
         s[i] = (number(line, line::FIRST_MARK, i, 9) % 256) as u8;
-        i += 1;
     }
 }
 

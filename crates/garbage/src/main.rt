@@ -18,31 +18,33 @@ mod show;
 mod show_pool;
 mod values;
 
+use std::io::{self, Read, Stdout};
+
 // A case, if a line ends here. Where the next line begins is handed back.
-fn ended(input: &[u8], from: usize, i: usize) -> usize {
+fn ended(out: Stdout, input: &[u8], from: usize, i: usize) -> io::Result<usize> {
     if line::byte(input, i) != b'\n' {
-        return from;
+        return Ok(from);
     }
     let to = std::num::wrapping_add_usize(i, 1);
     let case = line::part(input, from, to);
-    io::write_all(1, case);
-    run::run(case);
-    to
+    out.write_all(case)?;
+    run::run(out, case)?;
+    Ok(to)
 }
 
-fn cases(input: &[u8]) {
+fn cases(out: Stdout, input: &[u8]) -> io::Result<()> {
     let mut from = 0;
-    let mut i = 0;
-    while i < input.len() {
-        from = ended(input, from, i);
-        i += 1;
+    for i in 0..input.len() {
+        from = ended(out, input, from, i)?;
     }
+    Ok(())
 }
 
-// What takes no argument is tried first.
-fn main() {
-    run::run(b"0");
-    let mut buf = io::large_buffer();
-    let n = io::read_full(0, &mut buf);
-    cases(&buf[..n]);
+// What takes no argument is tried first. Of the input the first 65,536 bytes are read.
+fn main(rt: HostRuntime) -> io::Result<()> {
+    let out = rt.stdout();
+    run::run(out, b"0")?;
+    let mut input = Vec::new(rt.alloc());
+    rt.stdin().take(65536).read_to_end(&mut input)?;
+    cases(out, input.as_slice())
 }

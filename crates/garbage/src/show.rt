@@ -1,70 +1,80 @@
 // Printing: what a call hands back, by a line that says how, in short text on standard output.
 use crate::show_pool;
+use std::io::{self, Stdout};
 
-pub(crate) fn one(b: u8) {
-    let a = [b];
-    io::write_all(1, &a);
+pub(crate) fn one(out: Stdout, b: u8) -> io::Result<()> {
+    out.write_all(&[b])
 }
 
 // A number after a blank.
-pub(crate) fn number(n: u32) {
-    one(b' ');
-    io::print_decimal(1, n as u64);
+pub(crate) fn number(out: Stdout, n: u32) -> io::Result<()> {
+    one(out, b' ')?;
+    out.print(n)
 }
 
-fn flag(n: u32) {
-    one(b' ');
+fn flag(out: Stdout, n: u32) -> io::Result<()> {
+    one(out, b' ')?;
     if n == 0 {
-        one(b'n');
-        one(b'o');
+        one(out, b'n')?;
+        one(out, b'o')?;
     } else {
-        one(b'y');
-        one(b'e');
-        one(b's');
+        one(out, b'y')?;
+        one(out, b'e')?;
+        one(out, b's')?;
     }
+    Ok(())
 }
 
 // A number that is given twice. If there is none, the two differ, and a dash is shown, or nothing.
-fn found(b: u8, n: u32, again: u32) {
+fn found(out: Stdout, b: u8, n: u32, again: u32) -> io::Result<()> {
     if n == again {
-        number(n);
+        number(out, n)?;
     } else if b == b'@' {
-        one(b' ');
-        one(b'-');
+        one(out, b' ')?;
+        one(out, b'-')?;
     }
+    Ok(())
 }
 
 // An item of a line, from the next two of the values. How many it takes is handed back.
-fn item(b: u8, n: u32, next: u32, case: &[u8], words: &[u32], marks: &[u8]) -> usize {
+fn item(
+    out: Stdout,
+    b: u8,
+    n: u32,
+    next: u32,
+    case: &[u8],
+    words: &[u32],
+    marks: &[u8],
+) -> io::Result<usize> {
     match b {
         b'#' => {
-            number(n);
-            1
+            number(out, n)?;
+            Ok(1)
         }
         b'?' => {
-            flag(n);
-            1
+            flag(out, n)?;
+            Ok(1)
         }
         b'@' | b'+' => {
-            found(b, n, next);
-            2
+            found(out, b, n, next)?;
+            Ok(2)
         }
         b'=' => {
-            show_pool::left(case, words);
-            0
+            show_pool::left(out, case, words)?;
+            Ok(0)
         }
         b'%' => {
-            show_pool::marks(marks);
-            0
+            show_pool::marks(out, marks)?;
+            Ok(0)
         }
         b'/' => {
-            one(b'\n');
-            0
+            one(out, b'\n')?;
+            Ok(0)
         }
-        b'\n' => 0,
+        b'\n' => Ok(0),
         _ => {
-            one(b);
-            0
+            one(out, b)?;
+            Ok(0)
         }
     }
 }
@@ -76,19 +86,26 @@ fn value(v: &[u32], i: usize) -> u32 {
     0
 }
 
-pub(crate) fn line(format: &[u8], v: &[u32], case: &[u8], words: &[u32], marks: &[u8]) {
+pub(crate) fn line(
+    out: Stdout,
+    format: &[u8],
+    v: &[u32],
+    case: &[u8],
+    words: &[u32],
+    marks: &[u8],
+) -> io::Result<()> {
     let mut at = 0;
-    let mut i = 0;
-    while i < format.len() {
+    for b in format {
         let taken = item(
-            format[i],
+            out,
+            *b,
             value(v, at),
             value(v, at % 16 + 1),
             case,
             words,
             marks,
-        );
+        )?;
         at = std::num::wrapping_add_usize(at, taken);
-        i += 1;
     }
+    Ok(())
 }

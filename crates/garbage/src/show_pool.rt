@@ -1,5 +1,6 @@
 // Printing of words and marks: all of them where they are eight at the most, else how many and a sum.
 use crate::{args, line, show};
+use std::io::{self, Stdout};
 
 // A word of the case: the line gives eight at the most, and after them it is 1.
 fn given(case: &[u8], i: usize) -> u32 {
@@ -12,56 +13,52 @@ fn given(case: &[u8], i: usize) -> u32 {
 // Whether a pool has the words of the case.
 fn same(case: &[u8], a: &[u32]) -> bool {
     let mut equal = true;
-    let mut i = 0;
-    while i < a.len() {
+    for i in 0..a.len() {
         equal = equal & (given(case, i) == a[i]);
-        i += 1;
     }
     equal
 }
 
 // One of so many numbers; it is shown if they are few. The sum shows a changed number, and two that are exchanged.
-fn element(len: usize, sum: u64, x: u32) -> u64 {
+fn element(out: Stdout, len: usize, sum: u64, x: u32) -> io::Result<u64> {
     if len <= 8 {
-        show::number(x);
+        show::number(out, x)?;
     }
-    (sum % 1000003 * 31 + x as u64) % 1000003
+    Ok((sum % 1000003 * 31 + x as u64) % 1000003)
 }
 
-fn end(len: usize, sum: u64) {
+fn end(out: Stdout, len: usize, sum: u64) -> io::Result<()> {
     if 8 < len {
-        show::one(b' ');
-        io::print_decimal(1, len as u64);
-        io::write_all(1, b" in all, sum ");
-        io::print_decimal(1, sum);
+        show::one(out, b' ')?;
+        out.print(len)?;
+        out.write_all(b" in all, sum ")?;
+        out.print(sum)?;
     }
+    Ok(())
 }
 
-fn words(a: &[u32]) {
+fn words(out: Stdout, a: &[u32]) -> io::Result<()> {
     let mut sum = 0;
-    let mut i = 0;
-    while i < a.len() {
-        sum = element(a.len(), sum, a[i]);
-        i += 1;
+    for word in a {
+        sum = element(out, a.len(), sum, *word)?;
     }
-    end(a.len(), sum);
+    end(out, a.len(), sum)
 }
 
-pub(crate) fn marks(a: &[u8]) {
+pub(crate) fn marks(out: Stdout, a: &[u8]) -> io::Result<()> {
     let mut sum = 0;
-    let mut i = 0;
-    while i < a.len() {
-        sum = element(a.len(), sum, line::byte(a, i) as u32);
-        i += 1;
+    for mark in a {
+        sum = element(out, a.len(), sum, *mark as u32)?;
     }
-    end(a.len(), sum);
+    end(out, a.len(), sum)
 }
 
 // The words that a call leaves.
-pub(crate) fn left(case: &[u8], a: &[u32]) {
+pub(crate) fn left(out: Stdout, case: &[u8], a: &[u32]) -> io::Result<()> {
     if same(case, a) {
-        io::write_all(1, b" same");
+        out.write_all(b" same")?;
     } else {
-        words(a);
+        words(out, a)?;
     }
+    Ok(())
 }

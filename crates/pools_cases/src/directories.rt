@@ -2,6 +2,7 @@
 // 63, and node 1 is stranded; all other lists are empty, and all other nodes are free.
 use crate::{show, text};
 use audit::Audited;
+use std::io::{self, Stdout};
 use words::link_ops::LinkOps;
 use words::names::Name;
 
@@ -16,10 +17,11 @@ fn side(before: u32, last: u32, after: u32) -> [u32; 65] {
 }
 
 // What the audit answers, and the marks of nodes 0, 1 and 999999.
-fn shown(nodes: u32, lists: u32, r: Audited, m: &[u8]) {
+fn shown(out: Stdout, nodes: u32, lists: u32, r: Audited, m: &[u8]) -> io::Result<()> {
     let a = r.answer;
     let f = a.node();
     show::values(
+        out,
         30,
         [
             nodes,
@@ -34,12 +36,13 @@ fn shown(nodes: u32, lists: u32, r: Audited, m: &[u8]) {
             text::byte(m, 1) as u32,
             text::byte(m, 999999) as u32,
         ],
-    );
+    )
 }
 
 // An audit of the nodes and the first lists, with all marks 9 before it: the name of the one node of list 62, head and
 // tail of list 63, and the head of list 64, which has no tail.
 fn audit(
+    out: Stdout,
     words: &[u32],
     marks: &mut [u8],
     lists: u32,
@@ -47,35 +50,39 @@ fn audit(
     head: u32,
     tail: u32,
     after: u32,
-) {
+) -> io::Result<()> {
     let marks = &mut *marks;
     let k = lists as usize;
     let heads = side(before, head, after);
     let tails = side(before, tail, 0);
     text::set_marks(marks, 9);
     let r = audit::audit(words, text::first(&heads, k), text::first(&tails, k), marks);
-    shown((words.len() % 4294967296) as u32, lists, r, marks);
+    shown(out, (words.len() % 4294967296) as u32, lists, r, marks)
 }
 
 // Right directories; then list 63 has no tail; then it is list 62 again.
-fn audits(words: &[u32], marks: &mut [u8]) {
+fn audits(out: Stdout, words: &[u32], marks: &mut [u8]) -> io::Result<()> {
     let marks = &mut *marks;
-    audit(words, marks, 64, 0, 2000000, 2000000, 0);
-    audit(words, marks, 65, 0, 2000000, 2000000, 0);
-    show::values(31, [0; 11]);
-    audit(words, marks, 64, 0, 2000000, 0, 8);
-    audit(words, marks, 65, 0, 2000000, 0, 8);
-    show::values(32, [0; 11]);
-    audit(words, marks, 64, 2000000, 2000000, 2000000, 0);
-    audit(words, marks, 65, 2000000, 2000000, 2000000, 0);
+    audit(out, words, marks, 64, 0, 2000000, 2000000, 0)?;
+    audit(out, words, marks, 65, 0, 2000000, 2000000, 0)?;
+    show::values(out, 31, [0; 11])?;
+    audit(out, words, marks, 64, 0, 2000000, 0, 8)?;
+    audit(out, words, marks, 65, 0, 2000000, 0, 8)?;
+    show::values(out, 32, [0; 11])?;
+    audit(out, words, marks, 64, 2000000, 2000000, 2000000, 0)?;
+    audit(out, words, marks, 65, 2000000, 2000000, 2000000, 0)
 }
 
-pub(crate) fn run(words: &mut [u32], marks: &mut [u8]) {
+pub(crate) fn run(out: Stdout, words: &mut [u32], marks: &mut [u8]) -> io::Result<()> {
     let words = &mut *words;
     text::set_words(words, 1);
     LinkOps::put(words, Name(2), 0);
     LinkOps::put(words, Name(4), 0);
     LinkOps::put(words, Name(2000000), 0);
-    audits(text::first(words, 1000000), text::cut_marks(marks, 1000000));
-    audits(words, marks);
+    audits(
+        out,
+        text::first(words, 1000000),
+        text::cut_marks(marks, 1000000),
+    )?;
+    audits(out, words, marks)
 }

@@ -2,15 +2,17 @@
 use crate::{pools, show, text};
 use cursor::Cursor;
 use ends::Ends;
+use std::io::{self, Stdout};
 use words::link_ops::LinkOps;
 use words::names::{Name, Node};
 
 // A push at the back of a pool of so many nodes, and the words that it leaves in the three nodes.
-fn push(words: &mut [u32], n: u32, ends: Ends, node: u32) -> Ends {
+fn push(out: Stdout, words: &mut [u32], n: u32, ends: Ends, node: u32) -> io::Result<Ends> {
     let r = list::push_back(text::cut(words, n as usize), ends, Node(node));
     let a = r.answer;
     let e = r.ends;
     show::values(
+        out,
         27,
         [
             n,
@@ -25,36 +27,34 @@ fn push(words: &mut [u32], n: u32, ends: Ends, node: u32) -> Ends {
             0,
             0,
         ],
-    );
-    e
+    )?;
+    Ok(e)
 }
 
 // Four moves on: from null along the list to null.
-fn forth(words: &[u32], ends: Ends) {
+fn forth(out: Stdout, words: &[u32], ends: Ends) -> io::Result<()> {
     let mut c = Cursor::null(ends);
-    let mut i: u32 = 0;
-    while i < 4 {
+    for _ in 0..4 {
         let r = moves::move_next(c, words, ends);
-        show::edited(4, r);
+        show::edited(out, 4, r)?;
         c = r.cursor;
-        i += 1;
     }
+    Ok(())
 }
 
 // Four moves back.
-fn back(words: &[u32], ends: Ends) {
+fn back(out: Stdout, words: &[u32], ends: Ends) -> io::Result<()> {
     let mut c = Cursor::null(ends);
-    let mut i: u32 = 0;
-    while i < 4 {
+    for _ in 0..4 {
         let r = moves::move_prev(c, words, ends);
-        show::edited(5, r);
+        show::edited(out, 5, r)?;
         c = r.cursor;
-        i += 1;
     }
+    Ok(())
 }
 
 // The audit of this one list, with all marks 9 before it, and the marks of the three nodes.
-fn audited(words: &[u32], marks: &mut [u8], ends: Ends) {
+fn audited(out: Stdout, words: &[u32], marks: &mut [u8], ends: Ends) -> io::Result<()> {
     let marks = &mut *marks;
     text::set_marks(marks, 9);
     let heads = [ends.head.0];
@@ -62,6 +62,7 @@ fn audited(words: &[u32], marks: &mut [u8], ends: Ends) {
     let r = audit::audit(words, &heads, &tails, marks);
     let a = r.answer;
     show::values(
+        out,
         28,
         [
             a.number(),
@@ -76,39 +77,41 @@ fn audited(words: &[u32], marks: &mut [u8], ends: Ends) {
             0,
             0,
         ],
-    );
+    )
 }
 
 // Moves, the audit and then all calls on the list, in a pool of so many nodes.
-fn on(words: &mut [u32], n: u32, marks: &mut [u8], ends: Ends) {
+fn on(out: Stdout, words: &mut [u32], n: u32, marks: &mut [u8], ends: Ends) -> io::Result<()> {
     let words = &mut *words;
     let marks = &mut *marks;
-    show::values(0, [n, n, 0, 0, 0, 0, 0, 0, 0, 0, 0]);
-    forth(text::first(words, n as usize), ends);
-    back(text::first(words, n as usize), ends);
+    show::values(out, 0, [n, n, 0, 0, 0, 0, 0, 0, 0, 0, 0])?;
+    forth(out, text::first(words, n as usize), ends)?;
+    back(out, text::first(words, n as usize), ends)?;
     audited(
+        out,
         text::first(words, n as usize),
         text::cut_marks(marks, n as usize),
         ends,
-    );
+    )?;
     pools::calls(
+        out,
         text::cut(words, n as usize),
         text::cut_marks(marks, n as usize),
         pools::three(ends),
-    );
+    )
 }
 
 // The words are all 1 before, and again after.
-pub(crate) fn run(words: &mut [u32], marks: &mut [u8]) {
+pub(crate) fn run(out: Stdout, words: &mut [u32], marks: &mut [u8]) -> io::Result<()> {
     let words = &mut *words;
     let marks = &mut *marks;
     let none = Ends::empty();
-    push(words, 1000001, Ends::new(Name(2), Name(0)), 4000000000);
-    push(words, 1000001, none, 999999);
-    let one = push(words, 1000000, none, 999999);
-    push(words, 1000000, one, 1000000);
-    let two = push(words, 1000000, one, 0);
-    let all = push(words, 1000000, two, 48574);
-    on(words, 1000001, marks, all);
-    on(words, 1000000, marks, all);
+    push(out, words, 1000001, Ends::new(Name(2), Name(0)), 4000000000)?;
+    push(out, words, 1000001, none, 999999)?;
+    let one = push(out, words, 1000000, none, 999999)?;
+    push(out, words, 1000000, one, 1000000)?;
+    let two = push(out, words, 1000000, one, 0)?;
+    let all = push(out, words, 1000000, two, 48574)?;
+    on(out, words, 1000001, marks, all)?;
+    on(out, words, 1000000, marks, all)
 }

@@ -12,17 +12,19 @@ mod show;
 mod text;
 mod widths;
 
+use std::io::{self, Stdout};
+
 // The cases, each of which is lent the one pool and its marks.
-fn run(words: &mut [u32; 1000001], marks: &mut [u8; 1000001]) {
-    pools::run(words, marks);
-    greatest::run(words, marks);
-    widths::run(words);
-    directories::run(words, marks);
+fn run(out: Stdout, words: &mut [u32; 1000001], marks: &mut [u8; 1000001]) -> io::Result<()> {
+    pools::run(out, words, marks)?;
+    greatest::run(out, words, marks)?;
+    widths::run(out, words)?;
+    directories::run(out, words, marks)
 }
 
 // The pool and its marks are 5 MB of the stack.
-fn main() {
+fn main(rt: HostRuntime) -> io::Result<()> {
     let mut words = [1u32; 1000001];
     let mut marks = [9u8; 1000001];
-    run(&mut words, &mut marks);
+    run(rt.stdout(), &mut words, &mut marks)
 }

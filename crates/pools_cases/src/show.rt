@@ -5,44 +5,45 @@ use cursor::{Cursor, Edited, EditedTwo};
 use ends::Ends;
 use iter::Stepped;
 use list::ListEdited;
+use std::io::{self, Stdout};
 use words::names::Found;
 
-fn one(b: u8) {
-    let a = [b];
-    io::write_all(1, &a);
+fn one(out: Stdout, b: u8) -> io::Result<()> {
+    out.write_all(&[b])
 }
 
 // A number after a blank.
-fn number(n: u32) {
-    one(b' ');
-    io::print_decimal(1, n as u64);
+fn number(out: Stdout, n: u32) -> io::Result<()> {
+    one(out, b' ')?;
+    out.print(n)
 }
 
 // A number that is given twice. If there is none, the two differ, and a dash is shown, or nothing.
-fn found(b: u8, n: u32, again: u32) {
+fn found(out: Stdout, b: u8, n: u32, again: u32) -> io::Result<()> {
     if n == again {
-        number(n);
+        number(out, n)?;
     } else if b == b'@' {
-        one(b' ');
-        one(b'-');
+        one(out, b' ')?;
+        one(out, b'-')?;
     }
+    Ok(())
 }
 
 // An item of a line, from the next two of the values. How many it takes is handed back.
-fn item(b: u8, n: u32, next: u32) -> usize {
+fn item(out: Stdout, b: u8, n: u32, next: u32) -> io::Result<usize> {
     match b {
         b'$' => {
-            number(n);
-            1
+            number(out, n)?;
+            Ok(1)
         }
         b'@' | b'+' => {
-            found(b, n, next);
-            2
+            found(out, b, n, next)?;
+            Ok(2)
         }
-        b'^' => 1,
+        b'^' => Ok(1),
         _ => {
-            one(b);
-            0
+            one(out, b)?;
+            Ok(0)
         }
     }
 }
@@ -54,18 +55,17 @@ fn value(v: &[u32], i: usize) -> u32 {
     0
 }
 
-fn line(format: &[u8], v: &[u32]) {
+fn line(out: Stdout, format: &[u8], v: &[u32]) -> io::Result<()> {
     let mut at = 0;
-    let mut i = 0;
-    while i < format.len() {
-        let taken = item(format[i], value(v, at), value(v, at % 16 + 1));
+    for b in format {
+        let taken = item(out, *b, value(v, at), value(v, at % 16 + 1))?;
         at = std::num::wrapping_add_usize(at, taken);
-        i += 1;
     }
+    Ok(())
 }
 
 // What each line shows: $ is a number, @ a node or none, + a number or nothing, ^ a number that is not shown.
-pub(crate) fn values(code: usize, v: [u32; 11]) {
+pub(crate) fn values(out: Stdout, code: usize, v: [u32; 11]) -> io::Result<()> {
     let table = b"# pool of$; marks$
 walk$@$
 front$@ |$$ |$$$
@@ -102,7 +102,7 @@ list 63 is list 62 again
 left: words$; marks$
 ";
     let from = text::skip(table, 0, code);
-    line(text::part(table, from, text::skip(table, from, 1)), &v);
+    line(out, text::part(table, from, text::skip(table, from, 1)), &v)
 }
 
 // The node's number, or one for none. A node is shown by two of these, with 0 and with 1 for none.
@@ -114,9 +114,17 @@ pub(crate) fn node(f: Found, none: u32) -> u32 {
 }
 
 // What a call hands back: its answer, the ends, the cursor, and the other list's ends.
-pub(crate) fn outcome(code: usize, a: Answer, e: Ends, c: Cursor, other: Ends) {
+pub(crate) fn outcome(
+    out: Stdout,
+    code: usize,
+    a: Answer,
+    e: Ends,
+    c: Cursor,
+    other: Ends,
+) -> io::Result<()> {
     let f = a.node();
     values(
+        out,
         code,
         [
             a.number(),
@@ -131,28 +139,28 @@ pub(crate) fn outcome(code: usize, a: Answer, e: Ends, c: Cursor, other: Ends) {
             other.tail.0,
             0,
         ],
-    );
+    )
 }
 
-pub(crate) fn edited(code: usize, r: Edited) {
+pub(crate) fn edited(out: Stdout, code: usize, r: Edited) -> io::Result<()> {
     let a = r.answer;
-    outcome(code, a, r.ends, r.cursor, r.ends);
+    outcome(out, code, a, r.ends, r.cursor, r.ends)
 }
 
-pub(crate) fn edited_two(code: usize, r: EditedTwo) {
+pub(crate) fn edited_two(out: Stdout, code: usize, r: EditedTwo) -> io::Result<()> {
     let a = r.answer;
-    outcome(code, a, r.ends, r.cursor, r.other);
+    outcome(out, code, a, r.ends, r.cursor, r.other)
 }
 
 // The iterator's four words stand where ends and cursor do.
-pub(crate) fn stepped(code: usize, r: Stepped) {
+pub(crate) fn stepped(out: Stdout, code: usize, r: Stepped) -> io::Result<()> {
     let a = r.answer;
     let i = r.iter;
     let e = Ends::new(i.prev_head, i.head);
-    outcome(code, a, e, Cursor::new(i.tail, i.next_tail, i.head), e);
+    outcome(out, code, a, e, Cursor::new(i.tail, i.next_tail, i.head), e)
 }
 
-pub(crate) fn list_edited(code: usize, r: ListEdited) {
+pub(crate) fn list_edited(out: Stdout, code: usize, r: ListEdited) -> io::Result<()> {
     let a = r.answer;
-    outcome(code, a, r.ends, Cursor::null(r.ends), r.ends);
+    outcome(out, code, a, r.ends, Cursor::null(r.ends), r.ends)
 }

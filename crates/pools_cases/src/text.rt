@@ -44,22 +44,12 @@ pub(crate) fn cut_marks(s: &mut [u8], n: usize) -> &mut [u8] {
 
 // Every word becomes this one.
 pub(crate) fn set_words(s: &mut [u32], w: u32) {
-    let n = s.len();
-    let mut i = 0;
-    while i < n {
-        s[i] = w;
-        i += 1;
-    }
+    s.fill(w);
 }
 
 // Every mark becomes this one.
 pub(crate) fn set_marks(s: &mut [u8], m: u8) {
-    let n = s.len();
-    let mut i = 0;
-    while i < n {
-        s[i] = m;
-        i += 1;
-    }
+    s.fill(m);
 }
 
 // A sum with one number more. It shows a changed number, and two that are exchanged.
@@ -70,10 +60,8 @@ fn added(sum: u64, x: u32) -> u64 {
 // The sum of the words.
 pub(crate) fn sum(s: &[u32]) -> u64 {
     let mut sum = 0;
-    let mut i = 0;
-    while i < s.len() {
-        sum = added(sum, s[i]);
-        i += 1;
+    for word in s {
+        sum = added(sum, *word);
     }
     sum
 }
@@ -81,10 +69,8 @@ pub(crate) fn sum(s: &[u32]) -> u64 {
 // The sum of the marks.
 pub(crate) fn sum_marks(s: &[u8]) -> u64 {
     let mut sum = 0;
-    let mut i = 0;
-    while i < s.len() {
-        sum = added(sum, byte(s, i) as u32);
-        i += 1;
+    for mark in s {
+        sum = added(sum, *mark as u32);
     }
     sum
 }

@@ -3,6 +3,7 @@
 use crate::{show, text};
 use cursor::Cursor;
 use ends::Ends;
+use std::io::{self, Stdout};
 use words::link_ops::LinkOps;
 use words::names::Name;
 
@@ -14,7 +15,7 @@ fn stamp(records: &mut [u8; 1052672]) {
 }
 
 // How long the part is, and its first and last byte if there is one, each given twice.
-fn shown(nodes: u32, records: u32, width: u32, t: u32, p: &[u8]) {
+fn shown(out: Stdout, nodes: u32, records: u32, width: u32, t: u32, p: &[u8]) -> io::Result<()> {
     let n = p.len();
     let none = (n == 0) as u32;
     let first = text::byte(p, 0) as u32;
@@ -32,11 +33,12 @@ fn shown(nodes: u32, records: u32, width: u32, t: u32, p: &[u8]) {
         0,
         0,
     ];
-    show::values(29, v);
+    show::values(out, 29, v)
 }
 
 // A read at the lone node of a list, with this many nodes and bytes of records.
 fn read(
+    out: Stdout,
     all: &[u32],
     space: &[u8; 1052672],
     nodes: u32,
@@ -44,33 +46,33 @@ fn read(
     width: u32,
     head: u32,
     tail: u32,
-) {
+) -> io::Result<()> {
     let words = text::first(all, nodes as usize);
     let records = text::part(space, 0, len as usize);
     let ends = Ends::new(Name(head), Name(tail));
     let cursor = Cursor::new(Name(head), Name(0), Name(0));
     let t = records::read_test(cursor, words, ends, records, width as usize);
     let p = records::read(cursor, words, ends, records, width as usize);
-    shown(nodes, len, width, t.number(), p);
+    shown(out, nodes, len, width, t.number(), p)
 }
 
 // The reads. In the second all but the sizes is wrong too.
-fn reads(words: &[u32], space: &[u8; 1052672]) {
-    read(words, space, 1000000, 1000000, 1, 2000000, 2000000);
-    read(words, space, 1000001, 1000001, 1, 3, 0);
-    read(words, space, 1000001, 1000001, 1, 2000000, 2000000);
-    read(words, space, 4096, 1048576, 256, 8192, 8192);
-    read(words, space, 4096, 1048575, 256, 8192, 8192);
-    read(words, space, 4097, 1048832, 256, 8192, 8192);
-    read(words, space, 4096, 1052672, 257, 8192, 8192);
+fn reads(out: Stdout, words: &[u32], space: &[u8; 1052672]) -> io::Result<()> {
+    read(out, words, space, 1000000, 1000000, 1, 2000000, 2000000)?;
+    read(out, words, space, 1000001, 1000001, 1, 3, 0)?;
+    read(out, words, space, 1000001, 1000001, 1, 2000000, 2000000)?;
+    read(out, words, space, 4096, 1048576, 256, 8192, 8192)?;
+    read(out, words, space, 4096, 1048575, 256, 8192, 8192)?;
+    read(out, words, space, 4097, 1048832, 256, 8192, 8192)?;
+    read(out, words, space, 4096, 1052672, 257, 8192, 8192)
 }
 
-pub(crate) fn run(words: &mut [u32]) {
+pub(crate) fn run(out: Stdout, words: &mut [u32]) -> io::Result<()> {
     let words = &mut *words;
     text::set_words(words, 1);
     LinkOps::put(words, Name(2000000), 0);
     LinkOps::put(words, Name(8192), 0);
     let mut space = [7u8; 1052672];
     stamp(&mut space);
-    reads(words, &space);
+    reads(out, words, &space)
 }
