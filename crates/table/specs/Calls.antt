@@ -10,11 +10,11 @@ use Rattle.cursor.specs.declared.Edited.{Edited}
 use Rattle.cursor.specs.declared.EditedTwo.{EditedTwo}
 use Rattle.moves.specs.Moves.{move_next, move_prev}
 use Rattle.insert.specs.Inserts.{insert_after, insert_before}
-use Rattle.remove.specs.Removes.{remove as removeAt, replace as replaceAt}
+use Rattle.remove.specs.Removes.{remove as remove_at, replace as replace_at}
 use Rattle.splice.specs.Splices.{splice_after, splice_before}
 use Rattle.split.specs.Splits.{split_after, split_before}
 use Rattle.list.specs.declared.ListEdited.{ListEdited}
-use Rattle.list.specs.Lists.{at_front, at_back, push_front, push_back, pop_front, pop_back, take as takeAll, fast_clear, reversed}
+use Rattle.list.specs.Lists.{at_front, at_back, push_front, push_back, pop_front, pop_back, take as take_all, fast_clear, reversed}
 use Rattle.place.specs.Places.{place_by_prev, place_by_next}
 use Rattle.iter.specs.declared.Iter.{Iter}
 use Rattle.iter.specs.declared.Stepped.{Stepped}
@@ -87,10 +87,10 @@ left ws ms a b ns = record { words = ws; marks = ms; answer = a; back = b; numbe
 abbrev pub at_cursor : List ℕ → AtCursor → Ends → Cursor → Outcome Edited
 at_cursor ws move-next e c = outcome ws (move_next ws e c)
 at_cursor ws move-prev e c = outcome ws (move_prev ws e c)
-at_cursor ws remove e c = removeAt ws e c
+at_cursor ws remove e c = remove_at ws e c
 at_cursor ws (insert-after i) e c = insert_after ws e c i
 at_cursor ws (insert-before i) e c = insert_before ws e c i
-at_cursor ws (replace i) e c = replaceAt ws e c i
+at_cursor ws (replace i) e c = replace_at ws e c i
 
 abbrev pub at_both : List ℕ → AtBoth → Ends → Cursor → Ends → Outcome EditedTwo
 at_both ws splice-after e c o = splice_after ws e c o
@@ -124,7 +124,7 @@ calls ws ms (at-both k e c o) =
     let p = at_both ws k e c o in
     left p.words ms p.result.answer (both-back p.result.ends p.result.cursor p.result.other) []
 calls ws ms (on-list k e) = let o = on_list ws k e in left o.words ms o.result.answer (list_back o.result.ends) []
-calls ws ms (take e o) = let t = takeAll ws e o in left ws ms t.answer (lists_back t.ends t.other) []
+calls ws ms (take e o) = let t = take_all ws e o in left ws ms t.answer (lists_back t.ends t.other) []
 calls ws ms (placing k e) = let d = placed ws k e in left ws ms d.answer (cursor-back d.ends d.cursor) []
 calls ws ms (read e c rs width) = left ws ms (read_test ws e c (length rs) width) nothing-back (read_at ws e c rs width)
 calls ws ms (step s it) = let t = stepped ws s it in left ws ms t.answer (iter-back t.iter) []
