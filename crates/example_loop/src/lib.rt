@@ -12,8 +12,6 @@ use xor_linked_list::{Node, XorLinkedList};
 pub fn push_all(words: &mut [u32], count: u32) -> XorLinkedList
     ensures { outcome words.new (list_edited result.answer result.ends) ≡ pushed_all count words.old }
 {
-    // Lent on once, so that the check knows after any number of edits that the words are as many as before.
-    let words = &mut *words;
     let mut list = XorLinkedList::new();
     let mut i = 0;
     while i < count {
