@@ -4,8 +4,7 @@
 A definition of specs/ or proofs/ whose name has a capital inside, as `poolFits`, gets underscores, as `pool_fits`. Functions of src/,
 exported names, strings, inputs and outputs are in another case already and keep their names. Where a lemma, a field or a constructor would
 then have a definition's name, it keeps its dash: port.py gave it an underscore because a library has a word of that spelling.
-Pages and tools that cite a name are turned alike. Wrong answers (must-fail/*.edit) get the new names, paths and operators, and what
-port.py wrote in the file that they change.
+Wrong answers, pages and tools that cite a name are turned alike. The rest of a wrong answer's text is fitted by hand.
 """
 import pathlib
 import re
