@@ -1,3 +1,2 @@
 -- What is proved of the audit, beside the proof of each function.
 pub mod Laws
-pub mod Relend
