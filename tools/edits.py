@@ -11,6 +11,7 @@ An error tells which it is:
 - a fact fails: two sides of an equation differ, a tactic does not close a goal of the function, or it is not proved that what the
   function ensures holds;
 - it follows from another, or a goal, a field or a name is not there, or it is any error that this tool does not know: it says nothing.
+  One about a name that is not there counts against the whole, whatever else is said: then the code has another shape.
 
 A wrong answer to F has the label F-WHAT. It is an edit of its own, F-WHAT.edit, and must leave F unproved; or it is one of several in
 an edit that makes many functions wrong at once, since each edit costs a check of its crate. There it begins with the comment lines
@@ -132,12 +133,14 @@ class Log:
         """What is wrong with this log as a refusal for a fact, of one function if a path is given; None if it is one."""
         place = "" if path is None else self.place(path)
         own = [(kind(said), where, said) for where, said in self.problems if where.startswith(place)]
+        own = [one for one in own if one[0] != "follows"]
+        unfit = [one for one in own if one[0] == "unfit"]
+        if own:
+            first = unfit[0] if unfit else own[0]
+            return None if first[0] == "fact" else f"{first[1]}: {first[2].splitlines()[0][:160]}"
         if any(SEARCHED.match(state) for name, state in self.state.items() if path in (None, name)):
             return None
-        if any(one[0] == "fact" for one in own):
-            return None
-        telling = [one for one in own if one[0] != "follows"]
-        return f"{telling[0][1]}: {telling[0][2].splitlines()[0][:160]}" if telling else "no error of its own"
+        return "no error of its own"
 
 
 def applied(text, folder):
