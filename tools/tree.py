@@ -15,7 +15,7 @@ from edits import answers, labels, path_is, refused_names
 
 ROOT = pathlib.Path(__file__).resolve().parent.parent
 # The crates whose methods only pass their calls on, to functions that have their own edits.
-FORWARDING = ("cursor_mut", "xor_linked_list", "rewzhanok_c", "rewzhanok_pools_c")
+FORWARDING = ("cursor_mut", "xor_linked_list")
 wrong = []
 
 
