@@ -1,8 +1,8 @@
 #!/usr/bin/env python3
 """Looks at why each wrong answer of crates/*/must-fail was refused, and fails unless a fact was missing.
 
-Use: tools/edits.py LOG                      judges what `rt ci` or `rt must-fail` said, a line for each edit, in LOG
-     tools/edits.py --try [CRATE[/EDIT] ..]   tries the edits itself, and judges what the check says of each function
+Use: tools/edits.py LOG                      after `rt ci`, which said what is in LOG: the part of the gate
+     tools/edits.py --try [CRATE[/EDIT] ..]   by hand, over what `rt check` makes of the crates
 
 An edit is a wrong answer. It is worth something if the prover refuses it because something that the contract asks for is not so. If
 it only makes the proof files unfit for the code, the prover would refuse a right answer of that shape as well, and nothing is shown.
@@ -17,10 +17,13 @@ A wrong answer to F has the label F-WHAT. It is an edit of its own, F-WHAT.edit,
 an edit that makes many functions wrong at once, since each edit costs a check of its crate. There it begins with the comment lines
     # F-WHAT: what is wrong
     # refused: F
-and each function that is named so, F or one that F calls, must be refused for a fact of its own. `rt ci` says one reason for each edit,
-and that is all that the gate sees. --try reads the whole of what a check says, so it sees each function; one that it does not see, since
-a function that it calls is wrong too, is tried again with its own wrong answer alone. Use it after a change of a contract or an edit: it
-takes as long as `rt ci` with nothing kept.
+and each function that is named so, F or one that F calls, must be refused for a fact of its own.
+
+`rt ci` says one reason for each edit, and cuts it short. So an edit that is about functions is tried here once more: the functions are
+checked, and those that they call, over the libraries that stand built. A function whose own error does not show, since one that it
+calls is wrong too, is tried again with its own wrong answer alone. An edit that is about none changes a definition or a statement.
+Proofs name goals after the code, so it can take away only a name that it declares itself: that it keeps those is seen in its text, and
+the reason is the one that `rt ci` says. --try checks the whole crate for such an edit too.
 """
 import concurrent.futures
 import os
@@ -31,7 +34,8 @@ import subprocess
 import sys
 import tempfile
 
-ROOT = pathlib.Path(__file__).resolve().parent.parent
+from built import CRATES, left_by_ci, rattle
+
 PARTS = ("src", "specs", "proofs")
 
 # What rt says of an edit: refused, or what else; and why.
@@ -103,7 +107,7 @@ class Log:
 
     def __init__(self, text):
         self.text = text
-        self.refused = re.search(r"^logic=not-proved", text, re.M) is not None
+        self.ended = re.search(r"^(logic|only)=", text, re.M) is not None
         self.state, self.problems, notes = {}, [], []
         for where, said in re.findall(r"^(?:\./)?(\S+?):\d+:\d+: error: (.*(?:\n  .*)*)", text, re.M):
             self.problems.append((where, said))
@@ -119,15 +123,8 @@ class Log:
     def place(path):
         return "proofs/" + path.replace("::", "/") + "/"
 
-    def unproved(self, name):
-        """The functions of that name, or label, that are not proved."""
-        return [path for path, state in self.state.items() if path_is(path, name) and state != "proved"]
-
-    def proves(self, label):
-        """Whether the function that a label is of is proved all the same."""
-        meant = [state for path, state in self.state.items()
-                 if label.startswith(labels(path)) or label.startswith(labels("::".join(path.split("::")[-2:])))]
-        return bool(meant) and all(state == "proved" for state in meant)
+    def proves(self, path):
+        return self.state.get(path) == "proved"
 
     def fault(self, path=None):
         """What is wrong with this log as a refusal for a fact, of one function if a path is given; None if it is one."""
@@ -143,20 +140,32 @@ class Log:
         return "no error of its own"
 
 
-def applied(text, folder):
-    """The files that an edit changes, as it leaves them; or fails with what is wrong with it."""
-    path, old, files = "", "", {}
+def hunks(text):
+    """The file, the old line and the new line of each change that an edit makes."""
+    path, old = "", ""
     for line in text.split("\n"):
         if line.startswith("file: "):
             path = line[6:].strip()
-            files.setdefault(path, (folder / path).read_text(encoding="utf-8"))
         elif line.startswith("old: "):
             old = line[5:]
         elif line.startswith("new:"):
-            if files[path].count(old) != 1:
-                raise ValueError(f"it cannot be applied: {old!r} stands {files[path].count(old)} times in {path}")
-            files[path] = files[path].replace(old, re.sub("^ ", "", line[4:]))
-    return files
+            yield path, old, re.sub("^ ", "", line[4:])
+
+
+def apply(text, folder):
+    """Makes the changes of an edit in a copy of its crate."""
+    for path, old, new in hunks(text):
+        before = (folder / path).read_text(encoding="utf-8")
+        if before.count(old) != 1:
+            raise ValueError(f"it cannot be applied: {old!r} stands {before.count(old)} times in {path}")
+        (folder / path).write_text(before.replace(old, new), encoding="utf-8")
+
+
+def lost(text):
+    """The names that an edit's old lines declare or import, and its new lines do not."""
+    declared = lambda line: re.findall(r"[^\s(){},.;]+", line.split("{", 1)[-1] if line.startswith("use ") else re.split(r" [=:] ", line)[0])
+    kept = {word for _, _, new in hunks(text) for word in re.findall(r"[^\s(){},.;]+", new)}
+    return [word for _, old, _ in hunks(text) if re.search(r"^use | [=:] ", old) for word in declared(old) if word not in kept]
 
 
 def alone(text, name):
@@ -173,116 +182,101 @@ def alone(text, name):
     return "\n".join(line for part in parts for line in part)
 
 
+def functions(crate):
+    """The paths of a crate's functions, as a check prints them."""
+    for file in sorted((CRATES / crate / "src").rglob("*.rt")):
+        module = file.relative_to(CRATES / crate / "src").with_suffix("").parts
+        owner = ()
+        for found in re.finditer(r"^impl(?:<[^>]*>)? (\w+)|^\}|^ *(?:pub )?(?:extern \"C\" )?fn (\w+)", file.read_text(encoding="utf-8"), re.M):
+            if found[2]:
+                yield "::".join([*(() if module[0] in ("lib", "main") else module), *owner, found[2]])
+            else:
+                owner = (found[1],) if found[1] else ()
+
+
+def functions_of(edit):
+    """The functions that an edit is about: by the name that a `# refused:` line has, or by its label."""
+    paths = list(functions(edit.parts[-3]))
+    if refused_names(edit):
+        return {name: [path for path in paths if path_is(path, name)] for name in refused_names(edit)}
+    return {edit.stem: [path for path in paths if edit.stem.startswith((*labels(path), *labels("::".join(path.split("::")[-2:]))))]}
+
+
 class Tries:
-    """Copies of the repository in which edits are tried, over what a check of the crate as it stands proved."""
+    """Checks of edited copies of one crate. What one proved, and another edit leaves as it is, is not proved again."""
 
-    def __init__(self, room):
-        self.room, self.base = room, room / "base"
-        self.copy(ROOT / "crates", self.base)
+    def __init__(self, crate, room):
+        self.crate, self.copy, self.kept = crate, room / crate, room / f"{crate}-kept"
 
-    @staticmethod
-    def copy(crates, to, kept=None):
-        """The crates, without what rt made of them; but the libraries, and what was kept of one crate."""
-        def link(one, other):
-            try:
-                os.link(one, other)
-            except OSError:
-                shutil.copy2(one, other)
-        for crate in sorted(crates.iterdir()):
-            for part in PARTS:
-                if (crate / part).is_dir():
-                    shutil.copytree(crate / part, to / "crates" / crate.name / part)
-            if kept and (crate / "out" / "rlib").is_dir():
-                shutil.copytree(crate / "out" / "rlib", to / "crates" / crate.name / "out" / "rlib", copy_function=link)
-        if kept:
-            own = f"crates/{kept}/out/incremental"
-            shutil.copytree(crates.parent / own, to / own, copy_function=lambda a, b: (link if a.endswith(".oantt") else shutil.copy2)(a, b))
-        for name in ("crates.txt", "HANDLES"):
-            if (crates.parent / name).is_file():
-                shutil.copy2(crates.parent / name, to)
-        (to / ".git").mkdir()
+    def log(self, text, paths):
+        """What a check of these functions, or of the whole crate, says with an edit of this text."""
+        shutil.rmtree(self.copy, ignore_errors=True)
+        for part in PARTS:
+            if (CRATES / self.crate / part).is_dir():
+                shutil.copytree(CRATES / self.crate / part, self.copy / part)
+        apply(text, self.copy)
+        return Log(rattle("check", self.crate, self.copy, "--incremental", self.kept, *(it for path in paths for it in ("--only", path)))[1])
 
-    def check(self, root, crate, *flags):
-        done = subprocess.run(["rt", "check", *flags], cwd=root / "crates" / crate, stdin=subprocess.DEVNULL, stdout=subprocess.PIPE,
-                              stderr=subprocess.STDOUT, text=True, errors="replace")
-        return done.returncode, done.stdout
-
-    def log(self, crate, text, lane):
-        """What a check says of the crate with an edit of this text."""
-        root = self.room / f"lane{lane}"
-        shutil.rmtree(root, ignore_errors=True)
-        self.copy(self.base / "crates", root, crate)
-        folder = root / "crates" / crate
-        for path, new in applied(text, folder).items():
-            (folder / path).write_text(new, encoding="utf-8")
-        return Log(self.check(root, crate, "--jobs", "1")[1])
-
-    def faults(self, edit, lane):
+    def faults(self, edit):
         """What is wrong with one edit."""
-        crate, label, text = edit.parts[-3], edit.stem, edit.read_text(encoding="utf-8")
+        text, about = edit.read_text(encoding="utf-8"), functions_of(edit)
         try:
-            log = self.log(crate, text, lane)
+            log = self.log(text, [path for paths in about.values() for path in paths])
         except (OSError, ValueError) as reason:
             return [str(reason)]
-        if not log.refused:
-            return ["it was not refused: " + log.text.strip()[-300:]]
-        named, own = refused_names(edit), answers(edit)
-        found = [f"{one} is proved all the same" for one in own if log.proves(one)]
-        if not named:
+        if not log.ended:
+            return ["it was not checked: " + log.text.strip()[-300:]]
+        found = [f"{name} is proved all the same" for name, paths in about.items() if paths and all(map(log.proves, paths))]
+        if not refused_names(edit):
             return found or [fault for fault in [log.fault()] if fault]
-        if own != [label] and len(own) != len(named):
-            found.append(f"{len(own)} wrong answers, and {len(named)} functions that are refused")
-        for name in named:
-            paths = log.unproved(name)
-            if not paths:
-                found.append(f"{name} is proved all the same, or is not there")
-            for path in paths:
-                fault = log.fault(path)
-                if fault and alone(text, name):
-                    again = self.log(crate, alone(text, name), lane)
-                    fault = again.fault(path) if again.unproved(path) else f"by itself it is proved all the same, or is not there"
-                found += [f"{name}: {fault}"] if fault else []
+        if answers(edit) != [edit.stem] and len(answers(edit)) != len(about):
+            found.append(f"{len(answers(edit))} wrong answers, and {len(about)} functions that are refused")
+        found += [f"{name} is not there" for name, paths in about.items() if not paths]
+        for name, path in [(name, path) for name, paths in about.items() for path in paths if not log.proves(path)]:
+            fault = log.fault(path)
+            if fault and alone(text, name):
+                again = self.log(alone(text, name), [path])
+                fault = "by itself it is proved all the same" if again.proves(path) else again.fault(path)
+            found += [f"{name}: {fault}"] if fault else []
         return found
 
 
-def tried(edits):
-    """Each edit with what is wrong with it, as they are tried."""
-    lanes = int(os.environ.get("RT_JOBS", 2))
+def tried(edits, after_ci):
+    """Each edit with what is wrong with it, as they are tried: the edits of a crate one after another, and some crates at a time."""
+    crates = {}
+    for edit in edits:
+        crates.setdefault(edit.parts[-3], []).append(edit)
+    for crate in crates:
+        if not (after_ci and left_by_ci(crate)):
+            said = subprocess.run(["rt", "check"], cwd=CRATES / crate, stdin=subprocess.DEVNULL, stdout=subprocess.PIPE,
+                                  stderr=subprocess.STDOUT, text=True, errors="replace")
+            if said.returncode:
+                sys.exit(f"{crate} is not proved as it stands:\n{said.stdout[-2000:]}")
     with tempfile.TemporaryDirectory(prefix="rewzhanok-edits-") as room:
-        tries = Tries(pathlib.Path(room))
-        for crate in dict.fromkeys(edit.parts[-3] for edit in edits):
-            status, said = tries.check(tries.base, crate)
-            if status:
-                sys.exit(f"{crate} is not proved as it stands:\n{said[-2000:]}")
-            mine, free = [edit for edit in edits if edit.parts[-3] == crate], list(range(lanes))
-
-            def one(edit):
-                lane = free.pop()
-                try:
-                    return tries.faults(edit, lane)
-                finally:
-                    free.append(lane)
-            with concurrent.futures.ThreadPoolExecutor(lanes) as pool:
-                for edit, found in zip(mine, pool.map(one, mine)):
-                    print(f"{crate}/{edit.stem}: {'; '.join(found) or 'refused for a fact'}", flush=True)
-                    yield edit, found
+        def each(crate):
+            tries = Tries(crate, pathlib.Path(room))
+            return [(edit, tries.faults(edit)) for edit in crates[crate]]
+        with concurrent.futures.ThreadPoolExecutor(int(os.environ.get("RT_JOBS") or len(os.sched_getaffinity(0)))) as pool:
+            for found in pool.map(each, sorted(crates, key=lambda crate: -len(crates[crate]))):
+                yield from found
 
 
 def main():
-    every = sorted((ROOT / "crates").glob("*/must-fail/*.edit"))
-    if sys.argv[1:2] == ["--try"]:
-        wanted = sys.argv[2:]
-        edits = [it for it in every if not wanted or {it.parts[-3], f"{it.parts[-3]}/{it.stem}"} & {*wanted}]
-        found = list(tried(edits))
+    every = sorted(CRATES.glob("*/must-fail/*.edit"))
+    if by_hand := sys.argv[1:2] == ["--try"]:
+        edits = [it for it in every if not sys.argv[2:] or {it.parts[-3], f"{it.parts[-3]}/{it.stem}"} & {*sys.argv[2:]}]
+        again, found = edits, []
     else:
-        edits = every
+        edits, again = every, [edit for edit in every if any(functions_of(edit).values())]
         said = {(crate, edit): text for crate, edit, text in LINE.findall(pathlib.Path(sys.argv[1]).read_text(encoding="utf-8"))}
         told = lambda edit: said.get((edit.parts[-3], edit.stem))
         found = [(edit, [it for it in [told_fault(told(edit)) if told(edit) else "it was not tried"] if it]) for edit in edits]
+        found += [(edit, [f"it takes away {name}"]) for edit in edits if edit not in again for name in lost(edit.read_text(encoding="utf-8"))]
+    found += list(tried(again, not by_hand))
     wrong = [f"{edit.parts[-3]}/{edit.stem}: {fault}" for edit, faults in found for fault in faults]
     count = sum(max(len(answers(edit)), len(refused_names(edit))) for edit in edits)
-    print("\n".join(wrong + [f"{len(edits)} edits, {count} wrong answers" +
-                             (f", {len(wrong)} faults" if wrong else ", each edit refused for a fact")]))
+    print("\n".join(wrong + [f"{len(edits)} edits, {count} wrong answers, {len(again)} edits tried here" +
+                             (f"; {len(wrong)} faults" if wrong else "; each refused for a fact")]))
     sys.exit(1 if wrong or not edits else 0)
 
 

@@ -1,0 +1,38 @@
+"""How a crate is checked or compiled over the libraries below it that stand built, as `rt ci` leaves them.
+
+`rt` itself would prove those once more: after `rt ci` no check has kept work beside them.
+"""
+import pathlib
+import re
+import subprocess
+
+ROOT = pathlib.Path(__file__).resolve().parent.parent
+CRATES = ROOT / "crates"
+
+
+def library(crate):
+    return CRATES / crate / "out" / "rlib" / f"{crate}.rlib"
+
+
+def below(crate):
+    """The crates that this one uses, as crates.txt says."""
+    return re.search(rf"^{crate}(?: staticlib)?:(.*)$", (ROOT / "crates.txt").read_text(encoding="utf-8"), re.M)[1].split()
+
+
+def left_by_ci(crate):
+    """Whether `rt ci` built the libraries below: it leaves no stamp beside one, as other commands do."""
+    return all(library(it).is_dir() and not (library(it).parent / "stamp").exists() for it in below(crate))
+
+
+def rattle(verb, crate, folder, *flags):
+    """Runs the kit's `rattle` on the crate's files in a folder, over the libraries below it. Gives its status and what it said."""
+    kit = pathlib.Path(subprocess.run(["rt", "doc"], check=True, capture_output=True, text=True).stdout.strip()).parent
+    top = next(it for it in ("src/lib.rt", "src/main.rt") if (folder / it).is_file())
+    words = [kit / "bin/rattle", verb, "--crate-name", crate, top, "--extern", f"std={kit}/rlibs/std.rlib", "-L", f"dependency={kit}/rlibs"]
+    for it in below(crate):
+        words += ["--extern", f"{it}={library(it)}", "-L", f"dependency={library(it).parent}"]
+    words += ["--antt-project", kit / "rattle/logic/antt-project.json", "--logic-built", kit / "logic_built", "--jobs", "1"]
+    words += ["--toolchain", kit / "toolchain"] if verb == "build" else []
+    done = subprocess.run([str(word) for word in [*words, *flags]], cwd=folder, stdin=subprocess.DEVNULL, stdout=subprocess.PIPE,
+                          stderr=subprocess.STDOUT, text=True, errors="replace")
+    return done.returncode, done.stdout
