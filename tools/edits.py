@@ -55,6 +55,8 @@ FACT = re.compile("|".join([
     r"it is not proved that",
 ]))
 UNFIT = re.compile(r"has no `|has no field `|is not in scope|exports no `|expected a type, but")
+# The two types differ in which place of the code they speak of: the proof is of other code.
+PLACES = re.compile(r"the two types[^`]*`[^` ]*Lts\.[A-Z][a-z][^` ]*`")
 SEARCHED = re.compile(r"no proof: .*`search` (did not prove|does not close)")
 
 
@@ -84,7 +86,7 @@ def kind(said):
     said = re.sub(r"^`[^`]*`: ", "", said)
     if FOLLOWS.match(said.split("\n")[0]):
         return "follows"
-    if UNFIT.search(said.split("\n")[0]):
+    if UNFIT.search(said.split("\n")[0]) or PLACES.search(said):
         return "unfit"
     return "fact" if FACT.match(said) else "unknown"
 
@@ -194,12 +196,22 @@ def functions(crate):
                 owner = (found[1],) if found[1] else ()
 
 
-def functions_of(edit):
-    """The functions that an edit is about: by the name that a `# refused:` line has, or by its label."""
+def owners(edit):
+    """The functions that each wrong answer of an edit is to, by its label; none if it is of a definition or a statement."""
+    mine = lambda path: (*labels(path), *labels("::".join(path.split("::")[-2:])))
     paths = list(functions(edit.parts[-3]))
-    if refused_names(edit):
-        return {name: [path for path in paths if path_is(path, name)] for name in refused_names(edit)}
-    return {edit.stem: [path for path in paths if edit.stem.startswith((*labels(path), *labels("::".join(path.split("::")[-2:]))))]}
+    return {label: [path for path in paths if label.startswith(mine(path))] for label in answers(edit)}
+
+
+def named(edit):
+    """The functions that the `# refused:` lines of an edit name."""
+    paths = list(functions(edit.parts[-3]))
+    return {name: [path for path in paths if path_is(path, name)] for name in refused_names(edit)}
+
+
+def about(edit):
+    """All functions that an edit is about."""
+    return sorted({path for paths in (*owners(edit).values(), *named(edit).values()) for path in paths})
 
 
 class Tries:
@@ -219,25 +231,27 @@ class Tries:
 
     def faults(self, edit):
         """What is wrong with one edit."""
-        text, about = edit.read_text(encoding="utf-8"), functions_of(edit)
+        text, names = edit.read_text(encoding="utf-8"), named(edit)
         try:
-            log = self.log(text, [path for paths in about.values() for path in paths])
+            log = self.log(text, about(edit))
         except (OSError, ValueError) as reason:
             return [str(reason)]
         if not log.ended:
             return ["it was not checked: " + log.text.strip()[-300:]]
-        found = [f"{name} is proved all the same" for name, paths in about.items() if paths and all(map(log.proves, paths))]
-        if not refused_names(edit):
+        found = [f"{label} is proved all the same" for label, paths in owners(edit).items() if paths and all(map(log.proves, paths))]
+        if not names:
             return found or [fault for fault in [log.fault()] if fault]
-        if answers(edit) != [edit.stem] and len(answers(edit)) != len(about):
-            found.append(f"{len(answers(edit))} wrong answers, and {len(about)} functions that are refused")
-        found += [f"{name} is not there" for name, paths in about.items() if not paths]
-        for name, path in [(name, path) for name, paths in about.items() for path in paths if not log.proves(path)]:
-            fault = log.fault(path)
-            if fault and alone(text, name):
-                again = self.log(alone(text, name), [path])
-                fault = "by itself it is proved all the same" if again.proves(path) else again.fault(path)
-            found += [f"{name}: {fault}"] if fault else []
+        if answers(edit) != [edit.stem] and len(answers(edit)) != len(refused_names(edit)):
+            found.append(f"{len(answers(edit))} wrong answers, and {len(refused_names(edit))} functions that are refused")
+        for name, paths in names.items():
+            if all(map(log.proves, paths)):
+                found.append(f"{name} is proved all the same, or is not there")
+            for path in (path for path in paths if not log.proves(path)):
+                fault = log.fault(path)
+                if fault and alone(text, name):
+                    again = self.log(alone(text, name), [path])
+                    fault = "by itself it is proved all the same" if again.proves(path) else again.fault(path)
+                found += [f"{name}: {fault}"] if fault else []
         return found
 
 
@@ -267,7 +281,7 @@ def main():
         edits = [it for it in every if not sys.argv[2:] or {it.parts[-3], f"{it.parts[-3]}/{it.stem}"} & {*sys.argv[2:]}]
         again, found = edits, []
     else:
-        edits, again = every, [edit for edit in every if any(functions_of(edit).values())]
+        edits, again = every, [edit for edit in every if about(edit)]
         said = {(crate, edit): text for crate, edit, text in LINE.findall(pathlib.Path(sys.argv[1]).read_text(encoding="utf-8"))}
         told = lambda edit: said.get((edit.parts[-3], edit.stem))
         found = [(edit, [it for it in [told_fault(told(edit)) if told(edit) else "it was not tried"] if it]) for edit in edits]
