@@ -2,6 +2,7 @@
 
 `rt` itself would prove those once more: after `rt ci` no check has kept work beside them.
 """
+import functools
 import pathlib
 import re
 import subprocess
@@ -14,9 +15,15 @@ def library(crate):
     return CRATES / crate / "out" / "rlib" / f"{crate}.rlib"
 
 
-def below(crate):
+def used(crate):
     """The crates that this one uses, as crates.txt says."""
     return re.search(rf"^{crate}(?: staticlib)?:(.*)$", (ROOT / "crates.txt").read_text(encoding="utf-8"), re.M)[1].split()
+
+
+@functools.cache
+def below(crate):
+    """Those, and what they use in turn."""
+    return sorted({*used(crate), *(it for one in used(crate) for it in below(one))})
 
 
 def left_by_ci(crate):
@@ -29,8 +36,10 @@ def rattle(verb, crate, folder, *flags):
     kit = pathlib.Path(subprocess.run(["rt", "doc"], check=True, capture_output=True, text=True).stdout.strip()).parent
     top = next(it for it in ("src/lib.rt", "src/main.rt") if (folder / it).is_file())
     words = [kit / "bin/rattle", verb, "--crate-name", crate, top, "--extern", f"std={kit}/rlibs/std.rlib", "-L", f"dependency={kit}/rlibs"]
+    for it in used(crate):
+        words += ["--extern", f"{it}={library(it)}"]
     for it in below(crate):
-        words += ["--extern", f"{it}={library(it)}", "-L", f"dependency={library(it).parent}"]
+        words += ["-L", f"dependency={library(it).parent}"]
     words += ["--antt-project", kit / "rattle/logic/antt-project.json", "--logic-built", kit / "logic_built", "--jobs", "1"]
     words += ["--toolchain", kit / "toolchain"] if verb == "build" else []
     done = subprocess.run([str(word) for word in [*words, *flags]], cwd=folder, stdin=subprocess.DEVNULL, stdout=subprocess.PIPE,
