@@ -38,7 +38,7 @@ PARTS = ("src", "specs", "proofs")
 FOLLOWS = re.compile(r".*\bwas not admitted\b")
 FACT = re.compile("|".join([
     r"(as printed|computed as far as they go), the two (types|sides)",
-    r"expected type `[^`]*`, but this has type `[^`]*`\s*(as printed|computed as far as they go), the two types",
+    r"expected type `[^`]*`, but this has type `[^`]*`\s*((as printed|computed as far as they go), the two types|one side )",
     r"give a proof of that as the last argument, `rw",  # it leaves two sides that differ
     r"`rw`: no (occurrence|part)",
     r"`(omega|grind|search|cc|simp|arith)`: (the goal does not follow|no proof|.* did not prove|.* does not close)",
