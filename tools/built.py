@@ -31,8 +31,15 @@ def left_by_ci(crate):
     return all(library(it).is_dir() and not (library(it).parent / "stamp").exists() for it in below(crate))
 
 
+def ran(words, folder):
+    """The status of a command that is run in a folder, and what it said."""
+    done = subprocess.run([str(word) for word in words], cwd=folder, stdin=subprocess.DEVNULL, stdout=subprocess.PIPE,
+                          stderr=subprocess.STDOUT, text=True, errors="replace")
+    return done.returncode, done.stdout
+
+
 def rattle(verb, crate, folder, *flags):
-    """Runs the kit's `rattle` on the crate's files in a folder, over the libraries below it. Gives its status and what it said."""
+    """What `ran` gives of the kit's `rattle`, on the crate's files in a folder and over the libraries below it."""
     kit = pathlib.Path(subprocess.run(["rt", "doc"], check=True, capture_output=True, text=True).stdout.strip()).parent
     top = next(it for it in ("src/lib.rt", "src/main.rt") if (folder / it).is_file())
     words = [kit / "bin/rattle", verb, "--crate-name", crate, top, "--extern", f"std={kit}/rlibs/std.rlib", "-L", f"dependency={kit}/rlibs"]
@@ -42,6 +49,4 @@ def rattle(verb, crate, folder, *flags):
         words += ["-L", f"dependency={library(it).parent}"]
     words += ["--antt-project", kit / "rattle/logic/antt-project.json", "--logic-built", kit / "logic_built", "--jobs", "1"]
     words += ["--toolchain", kit / "toolchain"] if verb == "build" else []
-    done = subprocess.run([str(word) for word in [*words, *flags]], cwd=folder, stdin=subprocess.DEVNULL, stdout=subprocess.PIPE,
-                          stderr=subprocess.STDOUT, text=True, errors="replace")
-    return done.returncode, done.stdout
+    return ran([*words, *flags], folder)

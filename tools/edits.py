@@ -27,11 +27,10 @@ import os
 import pathlib
 import re
 import shutil
-import subprocess
 import sys
 import tempfile
 
-from built import CRATES, left_by_ci, rattle
+from built import CRATES, left_by_ci, ran, rattle
 
 PARTS = ("src", "specs", "proofs")
 
@@ -208,10 +207,9 @@ def tried(edits, after_ci):
         crates.setdefault(edit.parts[-3], []).append(edit)
     for crate in crates:
         if not (after_ci and left_by_ci(crate)):
-            said = subprocess.run(["rt", "check"], cwd=CRATES / crate, stdin=subprocess.DEVNULL, stdout=subprocess.PIPE,
-                                  stderr=subprocess.STDOUT, text=True, errors="replace")
-            if said.returncode:
-                sys.exit(f"{crate} is not proved as it stands:\n{said.stdout[-2000:]}")
+            status, said = ran(["rt", "check"], CRATES / crate)
+            if status:
+                sys.exit(f"{crate} is not proved as it stands:\n{said[-2000:]}")
     with tempfile.TemporaryDirectory(prefix="rewzhanok-edits-") as room:
         def each(crate):
             tries = Tries(crate, pathlib.Path(room))
