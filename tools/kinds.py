@@ -17,7 +17,6 @@ NAMES = "head tail current prev next ptr start end old new side word at prev_hea
 # Everywhere.
 FORMS = {
     "node.0 as usize": "a node's number is its place in a slice",
-    "NAME.0 == NAME.0": "two names are one",
     "Node(NUMBER)": "no other kind of number is in it",
     "Name(NUMBER)": "no other kind of number is in it",
 }
@@ -42,28 +41,19 @@ PLACES = {
         "Name(LinkOps::get(words, NAME).0)": "the word of a list's end is the name of its one neighbour",
         "LinkOps::get(words, current).0 == NAME.0 ^ NAME.0": "a node's word holds its neighbours' names",
     },
-    "audit/src/lib.rt": {
-        "Name(heads[i])": "ends are lent as words",
-        "Name(tails[i])": "ends are lent as words",
+    "audit/src/directory.rt": {
+        "Name(self.heads[list])": "ends are lent as words",
+        "Name(self.tails[list])": "ends are lent as words",
     },
     "rewzhanok_pools/src/lib.rt": {"Name(NAME)": "ends are handed in as words"},
     "rows/src/lib.rt": {
-        "Name(lists[at])": "ends and cursors are lent as words",
-        "Name(lists[at + NUMBER])": "ends and cursors are lent as words",
-        "lists[at] = NAME.0;": "ends and cursors are lent as words",
-        "lists[at + NUMBER] = NAME.0;": "ends and cursors are lent as words",
-    },
-    "lent_desk/src/lib.rt": {
-        "heads[i] = NAME.0;": "ends are lent to the audit as words",
-        "tails[i] = NAME.0;": "ends are lent to the audit as words",
-    },
-    "batch_desk/src/lib.rt": {
-        "ends[NUMBER].head.0,": "ends are lent to the audit as words",
-        "ends[NUMBER].tail.0,": "ends are lent to the audit as words",
+        "Ends::new(Name(NAME), Name(NAME))": "ends and cursors are lent as words",
+        "Cursor::new(Name(NAME), Name(NAME), Name(NAME))": "ends and cursors are lent as words",
+        "NAME.0,": "ends and cursors are lent as words",
     },
     "example_loop/src/lib.rt": {"Node(i)": "the nodes of an example, counted"},
     "desk/src/work.rt": {"Node(node)": "the node field of a command line"},
-    "replies/src/lib.rt": {"Found::At(node) => node.0,": "the node field of an answer"},
+    "replies/src/lib.rt": {"found.map_or(NO_NODE, |node| node.0)": "the node field of an answer"},
 }
 
 
@@ -97,7 +87,9 @@ def main():
     for path in sorted(CRATES.glob("*/src/**/*.rt")):
         name = str(path.relative_to(CRATES))
         text = code(path.read_text(encoding="utf-8"))
-        for called in re.findall(r"\b(\w+): Node\b|Found::At\((\w+)\)|Answer::Handed\((\w+)\)", text):
+        # A program that tests hands in what it likes and shows fields; it does not make the one from the other either.
+        program = (CRATES / name.split("/")[0] / "src" / "main.rt").is_file()
+        for called in re.findall(r"\b(\w+): Node\b" + (r"()" if program else r"|\bSome\((\w+)\)"), text):
             wrong += [f"{name}: a node is called `{c}`, as names are" for c in called if c in NAMES]
         for form in PLACES.get(name, {}):
             text, found = blanked(text, form)
@@ -105,8 +97,6 @@ def main():
                 wrong.append(f"{name}: nothing is `{form}`")
         for form in FORMS:
             text, _ = blanked(text, form)
-        # A program that tests hands in what it likes and shows fields; it does not make the one from the other either.
-        program = (CRATES / name.split("/")[0] / "src" / "main.rt").is_file()
         bad = r"\b(?:Node|Name)\((?:[^()]|\((?:[^()]|\([^()]*\))*\))*?\.0\b" if program else r"\b(?:Node|Name)\(|[\w)\]]\.0\b"
         lines = path.read_text(encoding="utf-8").splitlines()
         at = sorted({text.count("\n", 0, found.start()) for found in re.finditer(bad, text)})

@@ -3,8 +3,8 @@
 
 - every file of Rattle and of antt starts with a comment that says what it is for;
 - a public function has an `ensures`, and no `requires`;
-- each public function has at least two wrong answers in must-fail, whose labels begin with its name, or its type's and its name; a
-  method that only passes its call on, in a crate of such methods, has at least one, or is named in a line `# refused:`;
+- each public function has at least two wrong answers in must-fail, whose labels begin with its name, or its type's and its name, or
+  which say that it is to be refused; a method that only passes its call on, in a crate of such methods, has at least one;
 - no proof rests on an axiom of its own, nor on `lem` or `ac`.
 """
 import pathlib
@@ -33,11 +33,10 @@ def public_functions(text):
 
 
 def edits_of(crate, name):
-    """How many of a crate's wrong answers are to this function."""
+    """How many of a crate's wrong answers are to this function: by their labels, or by what they say is to be refused."""
     edits = list(crate.glob("must-fail/*.edit"))
-    if crate.name in FORWARDING:
-        return sum(any(path_is(name, other) for other in refused_names(edit)) for edit in edits)
-    return sum(label.startswith(labels(name)) for edit in edits for label in answers(edit))
+    labelled = sum(label.startswith(labels(name)) for edit in edits for label in answers(edit))
+    return max(labelled, sum(any(path_is(name, other) for other in refused_names(edit)) for edit in edits))
 
 
 for crate in sorted((ROOT / "crates").iterdir()):

@@ -1,11 +1,8 @@
--- The refusals and their numbers (document 01, 'Refusal numbers'), and what an edit answers.
-use Rattle.std.specs.Prelude.{ℕ, Bool, true, false, cond}
-use Rattle.words.specs.declared.names.Found.{Found}
-use Rattle.words.specs.declared.names.Found.TheVariants.{At, Nothing}
+-- The refusals and their numbers (document 01, 'Refusal numbers'), and what a call answers.
+use Rattle.std.specs.Prelude.{ℕ, Bool, cond, Option, Some, None, Result, Ok, Err}
+use Rattle.words.specs.declared.names.Node.{Node}
 use Rattle.answers.specs.declared.Refusal.{Refusal}
 use Rattle.answers.specs.declared.Refusal.TheVariants.{Size, NoSuchList, SameList, EndsDoNotHold, CursorDoesNotStand, NotEmpty, NoSuchNode, AtNull, AlreadyLinked, NoListing, Malformed, NoRoom}
-use Rattle.answers.specs.declared.Answer.{Answer}
-use Rattle.answers.specs.declared.Answer.TheVariants.{Done, Handed, Refused}
 
 -- The table's number of each refusal.
 abbrev pub number : Refusal → ℕ
@@ -22,32 +19,45 @@ number NoListing = 10
 number Malformed = 11
 number NoRoom = 12
 
+-- What a call answers: done, with the node that it hands out if it does; or refused.
+abbrev pub Answer : Type 0
+Answer = Result (Option Node) Refusal
+
+-- Done, with no node handed out.
+abbrev pub done : Answer
+done = Ok None
+
 -- The number of an answer: 0 for what is done.
 abbrev pub answer_number : Answer → ℕ
-answer_number Done = 0
-answer_number (Handed i) = 0
-answer_number (Refused r) = number r
+answer_number (Ok i) = 0
+answer_number (Err r) = number r
 
 -- The node that an answer hands out.
-abbrev pub handed : Answer → Found
-handed Done = Nothing
-handed (Handed i) = At i
-handed (Refused r) = Nothing
+abbrev pub handed : Answer → Option Node
+handed (Ok i) = i
+handed (Err r) = None
 
--- The answer that hands out what was found.
-abbrev pub handing : Found → Answer
-handing (At i) = Handed i
-handing Nothing = Done
+-- What a test answers: it is passed, or it refuses.
+abbrev pub Tested : Type 0
+Tested = Result Unit Refusal
 
-abbrev pub is_refused : Answer → Bool
-is_refused Done = false
-is_refused (Handed i) = false
-is_refused (Refused r) = true
+abbrev pub passed : Tested
+passed = Ok tt
+
+-- What a call comes to after its tests: what is left by their refusal, or else what is made.
+abbrev pub if_refused : {A B : Type 0} → Result A Refusal → (Refusal → B) → B → B
+if_refused (Ok x) left made = made
+if_refused (Err r) left made = left r
+
+-- The answer of a call that does no more than its tests.
+abbrev pub answered : Tested → Answer
+answered t = if_refused t (λ r. Err r) done
 
 -- A ladder of tests: refused unless the test holds, and then by what is left of the ladder.
-abbrev pub need : Bool → Refusal → Answer → Answer
-need holds r rest = cond holds rest (Refused r)
+abbrev pub need : {A : Type 0} → Bool → Refusal → Result A Refusal → Result A Refusal
+need holds r rest = cond holds rest (Err r)
 
 -- One ladder after another.
-abbrev pub and_then : Answer → Answer → Answer
-and_then a b = cond (is_refused a) a b
+abbrev pub and_then : {A B : Type 0} → Result A Refusal → Result B Refusal → Result B Refusal
+and_then (Ok x) b = b
+and_then (Err r) b = Err r

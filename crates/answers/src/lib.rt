@@ -2,12 +2,12 @@
 #![tactic(auto)]
 
 ghost use Rattle.std.specs.Prelude.{◌≡◌};
-ghost use Rattle.answers.specs.Answer.{answer_number, is_refused, handed};
+ghost use Rattle.answers.specs.Answer.{answer_number, answered};
 
-use words::names::{Found, Node};
+use words::names::Node;
 
 // One case a row of the table, by its number.
-#[derive(Clone, Copy)]
+#[derive(Clone, Copy, PartialEq, Eq)]
 pub enum Refusal {
     Size,
     NoSuchList,
@@ -23,16 +23,11 @@ pub enum Refusal {
     NoRoom,
 }
 
-// What a call answers: it is done, or done and hands out a node, or refused.
-#[derive(Clone, Copy)]
-pub enum Answer {
-    Done,
-    Handed(Node),
-    Refused(Refusal),
-}
+// What a call answers: it is done, and may hand out a node; or it is refused.
+pub type Answer = Result<Option<Node>, Refusal>;
 
 impl Refusal {
-    // The table's number.
+    // The table's number. (No `From`: `number` is document 01's word for it, and README's.)
     pub fn number(self) -> u32
         ensures { result ≡ Rattle.answers.specs.Answer.number self }
     {
@@ -53,46 +48,27 @@ impl Refusal {
     }
 }
 
-impl Answer {
-    pub fn is_refused(self) -> bool
-        ensures { result ≡ is_refused self }
-    {
-        match self {
-            Answer::Done => false,
-            Answer::Handed(_) => false,
-            Answer::Refused(_) => true,
-        }
+// 0 for what is done, the table's number for what is refused.
+pub fn number(answer: Answer) -> u32
+    ensures { result ≡ answer_number answer }
+{
+    match answer {
+        Ok(_) => 0,
+        Err(refusal) => refusal.number(),
     }
+}
 
-    // 0 for what is done, the table's number for what is refused.
-    pub fn number(self) -> u32
-        ensures { result ≡ answer_number self }
-    {
-        match self {
-            Answer::Done => 0,
-            Answer::Handed(_) => 0,
-            Answer::Refused(r) => r.number(),
-        }
-    }
+// The node handed out, if there is one.
+pub fn handed(answer: Answer) -> Option<Node>
+    ensures { result ≡ Rattle.answers.specs.Answer.handed answer }
+{
+    answer.ok().flatten()
+}
 
-    // The node handed out, if there is one.
-    pub fn node(self) -> Found
-        ensures { result ≡ handed self }
-    {
-        match self {
-            Answer::Done => Found::Nothing,
-            Answer::Handed(node) => Found::At(node),
-            Answer::Refused(_) => Found::Nothing,
-        }
-    }
-
-    // The answer that hands out what was found.
-    pub fn handing(found: Found) -> Answer
-        ensures { result ≡ Rattle.answers.specs.Answer.handing found }
-    {
-        match found {
-            Found::At(node) => Answer::Handed(node),
-            Found::Nothing => Answer::Done,
-        }
-    }
+// The answer of a call that does no more than its tests.
+pub fn answered(test: Result<(), Refusal>) -> Answer
+    ensures { result ≡ answered test }
+{
+    test?;
+    Ok(None)
 }

@@ -1,6 +1,6 @@
 -- The laws of the audit. Read from the top; a later one uses earlier ones.
 pub mod Tally
-pub mod Steps
+pub mod Columns
 pub mod Passes
 pub mod Sequences
 pub mod Numbers

@@ -1,10 +1,10 @@
 -- The audit of a directory (document 01, 'Walk and audit'). Here and in all that follows es are the records of its lists,
 -- and k is the number of a list.
-use Rattle.std.specs.Prelude.{ℕ, zero, suc, ◌+◌, Bool, cond, not, ◌&&◌, List, [], ◌∷◌, length, slice_index}
+use Rattle.std.specs.Prelude.{ℕ, zero, suc, ◌+◌, Bool, cond, not, ◌&&◌, List, [], ◌∷◌, length, slice_index, Err}
 use Rattle.words.specs.Names.{directory_fits, is_linked}
 use Rattle.answers.specs.declared.Refusal.{Refusal}
 use Rattle.answers.specs.declared.Refusal.TheVariants.{Size, EndsDoNotHold, NoListing}
-use Rattle.answers.specs.declared.Answer.TheVariants.{Done, Refused}
+use Rattle.answers.specs.Answer.{done}
 use Rattle.ends.specs.declared.Ends.{Ends}
 use Rattle.ends.specs.Ends.{ends_of}
 use Rattle.ends.specs.Tests.{ends_hold}
@@ -55,12 +55,12 @@ is_stranded ws ms i = not (is_marked ms i) && is_linked (slice_index ws i)
 
 -- An audit that is refused at list k.
 abbrev pub refused_at : Refusal → ℕ → Audited
-refused_at r k = record { answer = Refused r; list = k; on_lists = 0; stranded = 0 }
+refused_at r k = record { answer = Err r; list = k; on_lists = 0; stranded = 0 }
 
 -- What the walks show: 10 at the lowest list that failed, with no mark; or else the nodes that have marks, and the stranded.
 abbrev pub after_walks : List ℕ → List ℕ → Lowest → Marking Audited
 after_walks ws ms none =
-    marking ms (record { answer = Done; list = 0; on_lists = tally (length ws) (is_marked ms); stranded = tally (length ws) (is_stranded ws ms) })
+    marking ms (record { answer = done; list = 0; on_lists = tally (length ws) (is_marked ms); stranded = tally (length ws) (is_stranded ws ms) })
 after_walks ws ms (list k) = marking (unmarked ms) (refused_at NoListing k)
 
 -- What the ends show: 4 at the lowest list that failed; or else it is for the walks, over marks of which none is set.

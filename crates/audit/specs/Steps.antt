@@ -1,18 +1,14 @@
 -- The steps that the audit's code is made of. The audit itself is in Audit; a law says that the steps come to it.
-use Rattle.std.specs.Prelude.{ℕ, ◌+◌, ◌%◌, ◌^◌, Bool, true, false, cond, ◌&&◌, List, [], ◌∷◌, length, ◌==◌}
-use Rattle.words.specs.Names.{directory_fits, pool_fits}
+use Rattle.std.specs.Prelude.{ℕ, cond, List, length, Result, Ok, Err}
 use Rattle.answers.specs.declared.Refusal.{Refusal}
 use Rattle.answers.specs.declared.Refusal.TheVariants.{Size, EndsDoNotHold, NoListing}
-use Rattle.answers.specs.declared.Answer.TheVariants.{Done, Refused}
+use Rattle.answers.specs.Answer.{done}
 use Rattle.ends.specs.declared.Ends.{Ends}
-use Rattle.answers.specs.Answer.{is_refused}
-use Rattle.ends.specs.Tests.{ends_hold}
 use Rattle.walk.specs.Marks.{is_marked, unmarked, sizes_fit, Marking, marking}
-use Rattle.walk.specs.Calls.{walk_list}
 use Rattle.audit.specs.declared.Audited.{Audited}
-use Rattle.audit.specs.declared.Progress.{Progress}
+use Rattle.audit.specs.declared.Fault.{Fault}
 use Rattle.audit.specs.declared.count.Counted.{Counted}
-use Rattle.audit.specs.Audit.{tally, is_stranded}
+use Rattle.audit.specs.Audit.{Lowest, none, list, tally, is_stranded, audit_fits, lowest_unheld, walks_of, refused_at}
 
 -- Both counts of nodes; none where the sizes do not fit.
 unfoldable pub counted_of : List ℕ → List ℕ → Counted
@@ -21,47 +17,37 @@ counted_of ws ms =
     (record { on_lists = tally (length ws) (is_marked ms); stranded = tally (length ws) (is_stranded ws ms) })
     (record { on_lists = 0; stranded = 0 })
 
--- Before the first pass, by the number of nodes, of marks and of lists.
-unfoldable pub begun_of : ℕ → ℕ → ℕ → Progress
-begun_of n m l =
-    cond (pool_fits n && m == n && directory_fits l)
-    (record { answer = Done; list = 0; walking = false })
-    (record { answer = Refused Size; list = 0; walking = false })
+-- What a pass over the lists says, by the list that fails first, if any does.
+abbrev pub unless_at : Refusal → Lowest → Result Unit Fault
+unless_at r none = Ok tt
+unless_at r (list k) = Err (record { refusal = r; list = k })
 
--- The next list, as a byte.
-unfoldable pub next_list : ℕ → ℕ
-next_list k = (k + 1) % 2 ^ 8
+-- The marks that are left of these after the walks: none, if one of them comes out wrong.
+abbrev pub unmarked_at : List ℕ → Lowest → List ℕ
+unmarked_at ms none = ms
+unmarked_at ms (list k) = unmarked ms
 
--- On to the next list, or refused at this one.
-unfoldable pub judged_of : Progress → Bool → Refusal → Progress
-judged_of s ok r =
-    cond ok (record { answer = Done; list = next_list s.list; walking = s.walking })
-    (record { answer = Refused r; list = s.list; walking = s.walking })
+-- Both counts, unless a pass says otherwise.
+abbrev pub and_counted : Result Unit Fault → Counted → Result Counted Fault
+and_counted (Ok u) c = Ok c
+and_counted (Err f) c = Err f
 
--- One list: nothing once refused; else its walk, or the test of its ends.
-unfoldable pub list_step_of : List ℕ → List ℕ → Progress → Ends → Marking Progress
-list_step_of ws ms s e =
-    let w = walk_list ws ms e (next_list s.list) in
-    cond (is_refused s.answer)
-    (marking ms s)
-    (cond s.walking
-    (marking w.marks (judged_of s w.result.ok NoListing))
-    (marking ms (judged_of s (ends_hold ws e) EndsDoNotHold)))
+-- What the steps leave of the marks and say, after the test of all ends: the walks, over marks of which none is set, and the counts.
+abbrev pub after_test : List ℕ → List Ends → List ℕ → Result Unit Fault → Marking (Result Counted Fault)
+after_test ws es ms (Err f) = marking ms (Err f)
+after_test ws es ms (Ok u) =
+    let w = walks_of ws 0 es (unmarked ms) in
+    let m = unmarked_at w.marks w.result in
+    marking m (and_counted (unless_at NoListing w.result) (counted_of ws m))
 
--- A pass over the lists in turn.
-unfoldable pub pass_of : List ℕ → List Ends → List ℕ → Progress → Marking Progress
-pass_of ws [] ms s = marking ms s
-pass_of ws (e ∷ es) ms s = let t = list_step_of ws ms s e in pass_of ws es t.marks t.result
+-- All of them: the sizes, the ends, the walks, the counts.
+unfoldable pub counted_steps : List ℕ → List Ends → List ℕ → Marking (Result Counted Fault)
+counted_steps ws es ms =
+    cond (audit_fits ws es ms)
+    (after_test ws es ms (unless_at EndsDoNotHold (lowest_unheld ws 0 es)))
+    (marking ms (Err (record { refusal = Size; list = 0 })))
 
--- Between the passes.
-unfoldable pub to_walks : List ℕ → Progress → Marking Progress
-to_walks ms s =
-    cond (is_refused s.answer) (marking ms s) (marking (unmarked ms) (record { answer = Done; list = 0; walking = true }))
-
--- After the second pass.
-unfoldable pub concluded_of : List ℕ → List ℕ → Progress → Marking Audited
-concluded_of ws ms s =
-    let c = counted_of ws ms in
-    cond (is_refused s.answer)
-    (marking (cond s.walking (unmarked ms) ms) (record { answer = s.answer; list = s.list; on_lists = 0; stranded = 0 }))
-    (marking ms (record { answer = Done; list = 0; on_lists = c.on_lists; stranded = c.stranded }))
+-- What is handed back: both counts, or the refusal and the list that it names.
+abbrev pub reported : Result Counted Fault → Audited
+reported (Ok c) = record { answer = done; list = 0; on_lists = c.on_lists; stranded = c.stranded }
+reported (Err f) = refused_at f.refusal f.list

@@ -2,19 +2,22 @@
 #![tactic(auto)]
 
 pub mod count;
+mod directory;
 
-ghost use Rattle.std.specs.Prelude.{◌≡◌, if◌then◌else◌, nat_le};
+ghost use Rattle.std.specs.Prelude.{◌≡◌, ◌≤◌, length};
+ghost use Rattle.answers.specs.declared.Refusal.TheVariants.{EndsDoNotHold, NoListing};
 ghost use Rattle.walk.specs.Marks.{marking};
-ghost use Rattle.audit.specs.Audit.{zip_ends, audit_all};
-ghost use Rattle.audit.specs.Steps.{begun_of, judged_of, list_step_of, pass_of, to_walks, concluded_of};
+ghost use Rattle.audit.specs.Audit.{zip_ends, audit_fits, lowest_unheld, walks_of, audit_all};
+ghost use Rattle.audit.specs.Steps.{reported, unless_at, unmarked_at, counted_steps};
 
-use crate::count::count_nodes;
+use crate::count::{Counted, count_nodes};
+use crate::directory::{Columns, Directory};
 use answers::{Answer, Refusal};
 use ends::Ends;
-use words::names::Name;
 
-// The answer; the list that a refusal names; and, done, how many nodes are on lists and how many are stranded.
-#[derive(Clone, Copy)]
+// The answer; the list that a refusal names; and, done, how many nodes are on lists and how many are stranded. What an
+// answer does not tell is 0, so these are numbers in every case, and no `Option`s.
+#[derive(Clone, Copy, PartialEq, Eq)]
 pub struct Audited {
     pub answer: Answer,
     pub list: u32,
@@ -22,176 +25,105 @@ pub struct Audited {
     pub stranded: u32,
 }
 
-// How far an audit has come: what it answers up to here, the list that comes next or that was refused, and whether lists
-// are walked or their ends are tested.
-#[derive(Clone, Copy)]
-struct Progress {
-    answer: Answer,
-    list: u8,
-    walking: bool,
+// Why an audit is refused, and the list that it names.
+#[derive(Clone, Copy, PartialEq, Eq)]
+struct Fault {
+    refusal: Refusal,
+    list: u32,
 }
 
-fn lesser(a: usize, b: usize) -> usize
-    ensures { result ≡ (if nat_le a b then a else b) }
+// The pool and the directory are within their limits, and there is one mark a node.
+#[tactic(auto, unfolding(crate::specs::Audit::audit_fits, walk::specs::Marks::sizes_fit))]
+fn fits<D: Directory>(words: &[u32], dir: &D, marks: &[u8]) -> bool
+    ensures { result ≡ audit_fits words.now (D.lists dir.now) marks.now }
 {
-    if a <= b {
-        return a;
+    let n = words.len();
+    words::names::pool_fits(n) & (marks.len() == n) & words::names::directory_fits(dir.count())
+}
+
+// The lists are tested in turn, as far as the first whose ends do not hold.
+fn test_ends<D: Directory>(words: &[u32], dir: &D) -> Result<(), Fault>
+    requires { length (D.lists dir.now) ≤ 64 }
+    ensures { result ≡ unless_at EndsDoNotHold (lowest_unheld words.now 0 (D.lists dir.now)) }
+{
+    for list in 0..dir.count() {
+        if !ends::tests::ends_hold(words, dir.ends_at(list)) {
+            return Err(Fault {
+                refusal: Refusal::EndsDoNotHold,
+                list: list as u32,
+            });
+        }
     }
-    b
+    Ok(())
 }
 
-// An audit over so many nodes, marks and lists is begun with the test of its sizes.
-fn begun(nodes: usize, marks: usize, lists: usize) -> Progress
-    ensures { result ≡ begun_of nodes marks lists }
+// The lists are walked in turn, each with its number plus 1 for a mark. At a fault every mark is taken away.
+fn walk_lists<D: Directory>(words: &[u32], dir: &D, marks: &mut [u8]) -> Result<(), Fault>
+    requires { length (D.lists dir.now) ≤ 64 }
+    ensures { let w = walks_of words.now 0 (D.lists dir.now) marks.old in
+        marking marks.new result ≡ marking (unmarked_at w.marks w.result) (unless_at NoListing w.result) }
 {
-    if words::names::pool_fits(nodes) & (marks == nodes) & words::names::directory_fits(lists) {
-        return Progress {
-            answer: Answer::Done,
+    for list in 0..dir.count() {
+        let mark = list as u8 + 1;
+        if !walk::step::walk_list(words, marks, dir.ends_at(list), mark).ok {
+            walk::marks::zero_marks(marks);
+            return Err(Fault {
+                refusal: Refusal::NoListing,
+                list: list as u32,
+            });
+        }
+    }
+    Ok(())
+}
+
+// The sizes are tested, then the ends of all lists; the lists are walked over marks of which none is set, and the nodes counted.
+#[tactic(auto, unfolding(crate::specs::Steps::counted_steps))]
+fn count_lists<D: Directory>(words: &[u32], dir: &D, marks: &mut [u8]) -> Result<Counted, Fault>
+    ensures { marking marks.new result ≡ counted_steps words.now (D.lists dir.now) marks.old }
+{
+    if !fits(words, dir, marks) {
+        return Err(Fault {
+            refusal: Refusal::Size,
             list: 0,
-            walking: false,
-        };
+        });
     }
-    Progress {
-        answer: Answer::Refused(Refusal::Size),
-        list: 0,
-        walking: false,
-    }
-}
-
-// On to the next list, or refused at this one.
-fn judged(s: Progress, ok: bool, refusal: Refusal) -> Progress
-    ensures { result ≡ judged_of s ok refusal }
-{
-    let list = s.list;
-    let walking = s.walking;
-    if ok {
-        return Progress {
-            answer: Answer::Done,
-            list: std::num::wrapping_add_u8(list, 1),
-            walking,
-        };
-    }
-    Progress {
-        answer: Answer::Refused(refusal),
-        list,
-        walking,
-    }
-}
-
-// The step of one list: its ends are tested, or its chain is walked with its number plus 1 for a mark. Once refused, nothing more is done.
-fn list_step(words: &[u32], marks: &mut [u8], s: Progress, ends: Ends) -> Progress
-    ensures { marking marks.new result ≡ list_step_of words.now marks.old s ends }
-{
-    let answer = s.answer;
-    if answer.is_refused() {
-        return s;
-    }
-    if s.walking {
-        let mark = std::num::wrapping_add_u8(s.list, 1);
-        let stood = walk::step::walk_list(words, marks, ends, mark);
-        return judged(s, stood.ok, Refusal::NoListing);
-    }
-    judged(
-        s,
-        ends::tests::ends_hold(words, ends),
-        Refusal::EndsDoNotHold,
-    )
-}
-
-// After the ends: every mark is taken away, and the lists are walked from the first.
-fn to_walks(marks: &mut [u8], s: Progress) -> Progress
-    ensures { marking marks.new result ≡ to_walks marks.old s }
-{
-    let answer = s.answer;
-    if answer.is_refused() {
-        return s;
-    }
+    test_ends(words, dir)?;
     walk::marks::zero_marks(marks);
-    Progress {
-        answer: Answer::Done,
-        list: 0,
-        walking: true,
-    }
+    walk_lists(words, dir, marks)?;
+    Ok(count_nodes(words, marks))
 }
 
-// After the walks: the nodes are counted. Refused, the audit names the list; and the marks go if lists were walked.
-fn concluded(words: &[u32], marks: &mut [u8], s: Progress) -> Audited
-    ensures { marking marks.new result ≡ concluded_of words.now marks.old s }
+// What is handed back of an audit.
+fn report(found: Result<Counted, Fault>) -> Audited
+    ensures { result ≡ reported found }
 {
-    let answer = s.answer;
-    if !answer.is_refused() {
-        let c = count_nodes(words, marks);
-        return Audited {
-            answer: Answer::Done,
+    match found {
+        Ok(c) => Audited {
+            answer: Ok(None),
             list: 0,
             on_lists: c.on_lists,
             stranded: c.stranded,
-        };
-    }
-    let list = s.list as u32;
-    if s.walking {
-        walk::marks::zero_marks(marks);
-        return Audited {
-            answer,
-            list,
+        },
+        Err(fault) => Audited {
+            answer: Err(fault.refusal),
+            list: fault.list,
             on_lists: 0,
             stranded: 0,
-        };
-    }
-    Audited {
-        answer,
-        list,
-        on_lists: 0,
-        stranded: 0,
+        },
     }
 }
 
-// One pass over heads and tails.
-fn pass(words: &[u32], heads: &[u32], tails: &[u32], marks: &mut [u8], begin: Progress) -> Progress
-    ensures { marking marks.new result ≡ pass_of words.now (zip_ends heads.now tails.now) marks.old begin }
-{
-    let n = lesser(heads.len(), tails.len());
-    let mut s = begin;
-    let mut i = 0;
-    while i < n {
-        let ends = Ends::new(Name(heads[i]), Name(tails[i]));
-        s = list_step(words, marks, s, ends);
-        i += 1;
-    }
-    s
-}
-
-// Audits the lists with these heads and tails, as many as there are of both. Done, each node on a list has the list's number plus 1 for a mark.
+// Audits the lists with these heads and tails, as many as there are of both. Done, each node on a list has the list's number plus 1
+// for a mark. (Two slices, and not one of records: the entry for C has its caller's, and document 01 has this form beside the other.)
 pub fn audit(words: &[u32], heads: &[u32], tails: &[u32], marks: &mut [u8]) -> Audited
     ensures { marking marks.new result ≡ audit_all words.now (zip_ends heads.now tails.now) marks.old }
 {
-    let lists = lesser(heads.len(), tails.len());
-    let first = begun(words.len(), marks.len(), lists);
-    let tested = pass(words, heads, tails, marks, first);
-    let second = to_walks(marks, tested);
-    let walked = pass(words, heads, tails, marks, second);
-    concluded(words, marks, walked)
-}
-
-// One pass over records.
-fn pass_records(words: &[u32], dir: &[Ends], marks: &mut [u8], mut s: Progress) -> Progress
-    ensures { marking marks.new result ≡ pass_of words.now dir.now marks.old s }
-{
-    let mut i = 0;
-    while i < dir.len() {
-        s = list_step(words, marks, s, dir[i]);
-        i += 1;
-    }
-    s
+    report(count_lists(words, &Columns { heads, tails }, marks))
 }
 
 // Audits a directory that is one lent slice of records.
 pub fn audit_records(words: &[u32], dir: &[Ends], marks: &mut [u8]) -> Audited
     ensures { marking marks.new result ≡ audit_all words.now dir.now marks.old }
 {
-    let mut s = begun(words.len(), marks.len(), dir.len());
-    s = pass_records(words, dir, marks, s);
-    s = to_walks(marks, s);
-    s = pass_records(words, dir, marks, s);
-    concluded(words, marks, s)
+    report(count_lists(words, &dir, marks))
 }

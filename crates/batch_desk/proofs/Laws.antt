@@ -1,5 +1,4 @@
 -- The laws of the batch desk.
-pub mod Ends
 pub mod Step
 pub mod Take
 pub mod Finish

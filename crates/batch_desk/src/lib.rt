@@ -2,54 +2,50 @@
 // in it. A run is over bytes that come in pieces: a line may begin in one piece and end in a later one.
 #![tactic(auto)]
 
-ghost use Rattle.std.specs.Prelude.{◌≡◌, length};
+ghost use Rattle.std.specs.Prelude.{◌≡◌};
 ghost use Rattle.words.specs.Pool.{outcome};
 ghost use Rattle.audit.specs.Audit.{audit_all};
 ghost use Rattle.lines.specs.Answers.{reply};
 ghost use Rattle.desk.specs.Reply.{reply_to_audit};
 ghost use Rattle.desk.specs.Work.{clearing};
-ghost use Rattle.desk.specs.Step.{desk_stepped, fresh_desk, command};
+ghost use Rattle.desk.specs.Step.{desk_stepped, ends_of_all, fresh_desk, command};
 ghost use Rattle.batch_desk.specs.Step.{desk_of, kept_of, no_marks, batch_step};
-ghost use Rattle.batch_desk.specs.Steps.{unmarking, named_list, other_list, step_rows};
+ghost use Rattle.batch_desk.specs.Steps.{unmarking, desk_on, batch_tested};
 ghost use Rattle.batch_desk.specs.Run.{running, run_from, run_of, finish_of};
 
-use answers::{Answer, Refusal};
-use audit::audit;
+use answers::Refusal;
+use audit::audit_records;
 use cursor::Cursor;
-use desk::work::by_code;
+use desk::work::{AUDIT, CLEAR, clear, command};
 use desk::{Row, Worked};
 use ends::Ends;
 use lines::answer::Reply;
-use lines::line::{Line, Order, Parsed, same_list};
+use lines::line::{Line, Order, tested};
+use replies::{to_audit, to_work, unread};
 use stream::{put_reply, take_line};
+use words::link_ops::Link;
 
 // The desk by value, with its answer to the line before.
-#[derive(Clone, Copy)]
+#[derive(Clone, Copy, PartialEq, Eq)]
 pub struct BatchDesk {
     pub words: [u32; 1024],
-    pub ends: [Ends; 8],
-    pub cursors: [Cursor; 8],
+    pub rows: [Row; 8],
     pub reply: Reply,
 }
 
-// What a line leaves of the lists that it names, and its answer.
-#[derive(Clone, Copy)]
-struct RowsStepped {
-    named: Row,
-    other: Row,
-    reply: Reply,
-}
-
 // Every node unlinked, every list empty, every cursor null.
+#[tactic(auto, unfolding(desk::specs::Step::fresh_desk))]
 pub fn fresh() -> BatchDesk
     ensures { kept_of result ≡ desk_stepped (fresh_desk 1024 8) (reply 0 0 0) }
 {
-    let none = Ends::empty();
-    let cursor = Cursor::null(none);
+    let ends = Ends::empty();
+    let row = Row {
+        ends,
+        cursor: Cursor::null(ends),
+    };
     BatchDesk {
-        words: [1u32; 1024],
-        ends: [none; 8],
-        cursors: [cursor; 8],
+        words: [Link::UNLINKED_MARKER; 1024],
+        rows: [row; 8],
         reply: Reply {
             number: 0,
             first: 0,
@@ -58,153 +54,69 @@ pub fn fresh() -> BatchDesk
     }
 }
 
-// Clear, with marks of its own.
+// Clear, with marks of its own. A function of its own, so that no other line of a run pays for them.
 fn clear_in(words: &mut [u32; 1024], named: Row, other: Row) -> Worked
-    ensures { (outcome words.new result ≡ unmarking (clearing words.old no_marks named other)) × (length words.new ≡ length words.old) }
+    ensures { outcome words.new result ≡ unmarking (clearing words.old no_marks named other) }
 {
     let mut marks = [0u8; 1024];
-    desk::work::clear(words, &mut marks, named, other)
+    clear(words, &mut marks, named, other)
 }
 
-// A command on lists, once 11, 1 and 2 are tested: 3, and then the command.
+// A command on lists, once 11, 1 and 2 are tested. No other than clear wants marks. (`command` tests for clear again, which costs
+// nothing beside the second function that it saves.)
 fn work_in(words: &mut [u32; 1024], named: Row, other: Row, order: Order) -> Worked
-    ensures { (outcome words.new result ≡ unmarking (command words.old no_marks named other order)) × (length words.new ≡ length words.old) }
+    ensures { outcome words.new result ≡ unmarking (command words.old no_marks named other order) }
 {
-    let code = order.code;
-    let node = order.node;
-    if code == 13 {
+    if order.code == CLEAR {
         return clear_in(words, named, other);
     }
-    if same_list(order) {
-        return Worked {
-            answer: Answer::Refused(Refusal::SameList),
-            named,
-            other,
-        };
-    }
-    by_code(words, named, other, code, node)
+    command(words, &mut [], named, other, order)
 }
 
 // The audit, with marks of its own, answered.
-fn audit_in(words: &[u32; 1024], ends: [Ends; 8]) -> Reply
-    ensures { result ≡ reply_to_audit (audit_all words.now ends no_marks).result }
+fn audit_in(words: &[u32; 1024], rows: &[Row; 8]) -> Reply
+    ensures { result ≡ reply_to_audit (audit_all words.now (ends_of_all rows.now) no_marks).result }
 {
-    let heads = [
-        ends[0].head.0,
-        ends[1].head.0,
-        ends[2].head.0,
-        ends[3].head.0,
-        ends[4].head.0,
-        ends[5].head.0,
-        ends[6].head.0,
-        ends[7].head.0,
-    ];
-    let tails = [
-        ends[0].tail.0,
-        ends[1].tail.0,
-        ends[2].tail.0,
-        ends[3].tail.0,
-        ends[4].tail.0,
-        ends[5].tail.0,
-        ends[6].tail.0,
-        ends[7].tail.0,
-    ];
+    let dir = rows.map(|row| row.ends);
     let mut marks = [0u8; 1024];
-    let a = audit(words, &heads, &tails, &mut marks);
-    replies::to_audit(a)
+    to_audit(audit_records(words, &dir, &mut marks))
 }
 
-// The place on the desk of the list that a line names, and of the other; 0 where it names none on the desk.
-fn named_list(line: Parsed) -> usize
-    ensures { result ≡ named_list line }
+// A line that was tested for 11: the audit, 2, and then the command. The other list is put back first: where both are one, the
+// named one stands.
+fn step_rows(words: &mut [u32; 1024], rows: &mut [Row; 8], line: Option<Order>) -> Reply
+    ensures { desk_stepped (desk_on words.new rows.new) result ≡ batch_tested (desk_on words.old rows.old) line }
 {
-    match line {
-        Parsed::Right(order) => (order.list % 8) as usize,
-        Parsed::Malformed => 0,
-    }
-}
-
-fn other_list(line: Parsed) -> usize
-    ensures { result ≡ other_list line }
-{
-    match line {
-        Parsed::Right(order) => (order.other % 8) as usize,
-        Parsed::Malformed => 0,
-    }
-}
-
-// A line that was tested for 11, on the words of the desk, the ends of its lists, and the rows at those two places.
-fn step_rows(
-    words: &mut [u32; 1024],
-    ends: [Ends; 8],
-    named: Row,
-    other: Row,
-    line: Parsed,
-) -> RowsStepped
-    ensures { (outcome words.new result ≡ step_rows words.old ends named other line) × (length words.new ≡ length words.old) }
-{
-    let Parsed::Right(order) = line else {
-        return RowsStepped {
-            named,
-            other,
-            reply: replies::unread(Refusal::Malformed),
-        };
+    let Some(order) = line else {
+        return unread(Refusal::Malformed);
     };
-    if order.code == 20 {
-        return RowsStepped {
-            named,
-            other,
-            reply: audit_in(words, ends),
-        };
+    if order.code == AUDIT {
+        return audit_in(words, rows);
     }
-    if (8 <= order.list) | (8 <= order.other) {
-        return RowsStepped {
-            named,
-            other,
-            reply: replies::unread(Refusal::NoSuchList),
-        };
+    let l = order.list as usize;
+    let m = order.other as usize;
+    if (8 <= l) | (8 <= m) {
+        return unread(Refusal::NoSuchList);
     }
+    let named = rows[l];
+    let other = rows[m];
     let w = work_in(words, named, other, order);
-    let first = w.named;
-    let second = w.other;
-    RowsStepped {
-        named: first,
-        other: second,
-        reply: replies::to_work(1024, w),
-    }
+    rows[m] = w.other;
+    rows[l] = w.named;
+    to_work(1024, w)
 }
 
-// What a line leaves of the desk, with its answer. 11 is tested, whatever is handed in. The other list is put back first: where both
-// are one, the named one stands.
-pub fn step(mut desk: BatchDesk, line: Parsed) -> BatchDesk
+// What a line leaves of the desk, with its answer. 11 is tested, whatever is handed in.
+pub fn step(mut desk: BatchDesk, line: Option<Order>) -> BatchDesk
     ensures { kept_of result ≡ batch_step (desk_of desk) line }
 {
-    let line = line.tested();
-    let l = named_list(line);
-    let m = other_list(line);
-    let e = desk.ends[l];
-    let c = desk.cursors[l];
-    let o = desk.ends[m];
-    let k = desk.cursors[m];
-    let all = desk.ends;
-    let named = Row { ends: e, cursor: c };
-    let other = Row { ends: o, cursor: k };
-    let r = step_rows(&mut desk.words, all, named, other, line);
-    let f = r.other.ends;
-    let h = r.other.cursor;
-    desk.ends[m] = f;
-    desk.cursors[m] = h;
-    let g = r.named.ends;
-    let j = r.named.cursor;
-    desk.ends[l] = g;
-    desk.cursors[l] = j;
-    let answer = r.reply;
-    desk.reply = answer;
+    desk.reply = step_rows(&mut desk.words, &mut desk.rows, tested(line));
     desk
 }
 
-// How far a run has come: the desk, the line that is not ended yet, and how many bytes of answers were written.
-#[derive(Clone, Copy)]
+// How far a run has come: the desk, the line that is not ended yet, and how many bytes of answers were written. (A count
+// beside the caller's slice, and no `Vec`: nothing here allocates, and the entry for C has its caller's array.)
+#[derive(Clone, Copy, PartialEq, Eq)]
 pub struct Ran {
     pub desk: BatchDesk,
     pub line: Line,
@@ -218,41 +130,27 @@ fn run_at(mut desk: BatchDesk, mut line: Line, input: &[u8], out: &mut [u8], at:
 {
     let mut wrote = at;
     let mut i = 0;
+    // No `for`: the place goes on by whole lines.
     while i < input.len() {
         let t = take_line(input, i, line);
-        let taken = t.line;
         if !t.ended {
-            line = taken;
-            return Ran { desk, line, wrote };
+            return Ran {
+                desk,
+                line: t.line,
+                wrote,
+            };
         }
         i = t.next;
         line = Line::new();
-        let p = taken.parse();
-        let l = named_list(p);
-        let m = other_list(p);
-        let e = desk.ends[l];
-        let c = desk.cursors[l];
-        let o = desk.ends[m];
-        let k = desk.cursors[m];
-        let all = desk.ends;
-        let named = Row { ends: e, cursor: c };
-        let r = step_rows(&mut desk.words, all, named, Row { ends: o, cursor: k }, p);
-        let f = r.other.ends;
-        let h = r.other.cursor;
-        desk.ends[m] = f;
-        desk.cursors[m] = h;
-        let g = r.named.ends;
-        let j = r.named.cursor;
-        desk.ends[l] = g;
-        desk.cursors[l] = j;
-        let answer = r.reply;
-        desk.reply = answer;
-        wrote = put_reply(out, wrote, answer);
+        let reply = step_rows(&mut desk.words, &mut desk.rows, t.line.parse());
+        desk.reply = reply;
+        wrote = put_reply(out, wrote, reply);
     }
     Ran { desk, line, wrote }
 }
 
 // Runs the desk over the input, from a line that may be begun. The answers go to the front of out, while there is room.
+#[tactic(auto, unfolding(crate::specs::Run::run_of))]
 pub fn run(desk: BatchDesk, line: Line, input: &[u8], out: &mut [u8]) -> Ran
     ensures { running out.new (kept_of result.desk) result.line result.wrote ≡ run_of (kept_of desk) line input.now out.old }
 {
@@ -270,6 +168,5 @@ pub fn finish(desk: BatchDesk, line: Line, out: &mut [u8], at: usize) -> Ran
             wrote: at,
         };
     }
-    let feed = [10u8; 1];
-    run_at(desk, line, &feed, out, at)
+    run_at(desk, line, &[b'\n'], out, at)
 }

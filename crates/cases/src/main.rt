@@ -5,7 +5,6 @@
 
 mod desks;
 mod orders;
-mod show;
 mod text;
 
 use std::io::{self, Stdout};

@@ -4,9 +4,7 @@ use Rattle.std.specs.Prelude.{ℕ, ◌≡◌, Bool, ◌&&◌, ◌||◌, not, Lis
 use Rattle.words.specs.Names.{is_linked}
 use Rattle.words.specs.Pool.{Outcome}
 use Rattle.answers.specs.declared.Refusal.TheVariants.{NoSuchNode, AlreadyLinked}
-use Rattle.answers.specs.declared.Answer.{Answer}
-use Rattle.answers.specs.declared.Answer.TheVariants.{Done}
-use Rattle.answers.specs.Answer.{need}
+use Rattle.answers.specs.Answer.{Answer, Tested, passed, need}
 use Rattle.cursor.specs.declared.Edited.{Edited}
 use Rattle.cursor.specs.Plain.{Place, nodes, Sound}
 use Rattle.cursor.specs.Alone.{LeavesAlone}
@@ -28,8 +26,8 @@ abbrev pub unlinking : ℕ → (ℕ → Bool) → ℕ → Bool
 unlinking i linked j = not (eqb j i) && linked j
 
 -- 7, then 9.
-abbrev pub free_test : ℕ → (ℕ → Bool) → ℕ → Answer
-free_test n linked i = need (ltb i n) NoSuchNode (need (not (linked i)) AlreadyLinked Done)
+abbrev pub free_test : ℕ → (ℕ → Bool) → ℕ → Tested
+free_test n linked i = need (ltb i n) NoSuchNode (need (not (linked i)) AlreadyLinked passed)
 
 -- What is promised of a call on a sound list, against its plain edit: the same answer, with the node handed out; the words
 -- and the ends of the new sequence, with a true cursor at its place; the linked marks; and everything else left alone.

@@ -9,10 +9,12 @@ ghost use Rattle.cursor.specs.Cursor.{cursor_of, null_cursor, edited, edited_two
 use answers::{Answer, Refusal};
 use ends::Ends;
 use words::link_ops::LinkOps;
-use words::names::{Found, Name, Node};
+use words::names::{Name, Node};
 
-// A place on a list: the node, null for none, and its two neighbours. At null they are the tail and the head.
-#[derive(Clone, Copy)]
+// A place on a list: the node, null for none, and its two neighbours. At null they are the tail and the head. It goes to each call
+// beside the list's ends and the lent words, and comes back with the ends, as document 01 has it; `cursor_mut` has it with the ends in
+// one value, whose methods the calls are.
+#[derive(Clone, Copy, PartialEq, Eq)]
 pub struct Cursor {
     pub current: Name,
     pub prev: Name,
@@ -20,7 +22,7 @@ pub struct Cursor {
 }
 
 // What a call on one list hands back.
-#[derive(Clone, Copy)]
+#[derive(Clone, Copy, PartialEq, Eq)]
 pub struct Edited {
     pub answer: Answer,
     pub ends: Ends,
@@ -28,7 +30,7 @@ pub struct Edited {
 }
 
 // What a call on two lists hands back.
-#[derive(Clone, Copy)]
+#[derive(Clone, Copy, PartialEq, Eq)]
 pub struct EditedTwo {
     pub answer: Answer,
     pub ends: Ends,
@@ -62,7 +64,7 @@ impl Cursor {
     }
 
     // The node under the cursor, in a pool of this many.
-    pub fn node(self, len: usize) -> Found
+    pub fn node(self, len: usize) -> Option<Node>
         ensures { result ≡ decoding len self.current }
     {
         self.current.decode(len)
@@ -75,61 +77,54 @@ impl Cursor {
     }
 
     // The tests of a call that takes ends and a cursor: 1, 4, 5.
-    pub fn stand_test(self, words: &[u32], ends: Ends) -> Answer
+    #[tactic(auto, unfolding(crate::specs::Cursor::stand_test))]
+    pub fn stand_test(self, words: &[u32], ends: Ends) -> Result<(), Refusal>
         ensures { result ≡ stand_test words.now ends self }
     {
-        let t = ends::tests::ends_test(words, ends);
-        if t.is_refused() {
-            return t;
-        }
+        ends::tests::ends_test(words, ends)?;
         if !self.stands(words, ends) {
-            return Answer::Refused(Refusal::CursorDoesNotStand);
+            return Err(Refusal::CursorDoesNotStand);
         }
-        Answer::Done
+        Ok(())
     }
 
     // The tests of a call that takes a node too: 1, 4, 5, 7.
-    pub fn node_test(self, words: &[u32], ends: Ends, node: Node) -> Answer
+    #[tactic(auto, unfolding(crate::specs::Cursor::node_test))]
+    pub fn node_test(self, words: &[u32], ends: Ends, node: Node) -> Result<(), Refusal>
         ensures { result ≡ node_test words.now ends self node }
     {
-        let t = self.stand_test(words, ends);
-        if t.is_refused() {
-            return t;
-        }
+        self.stand_test(words, ends)?;
         if words.len() <= node.0 as usize {
-            return Answer::Refused(Refusal::NoSuchNode);
+            return Err(Refusal::NoSuchNode);
         }
-        Answer::Done
+        Ok(())
     }
 
     // The test of a call that wants a node under the cursor, 8, after the others.
-    pub fn some_test(self, before: Answer) -> Answer
+    #[tactic(auto, unfolding(crate::specs::Cursor::some_test))]
+    pub fn some_test<T: Copy>(self, before: Result<T, Refusal>) -> Result<(), Refusal>
         ensures { result ≡ some_test before self }
     {
-        if before.is_refused() {
-            return before;
-        }
+        before?;
         if self.is_null() {
-            return Answer::Refused(Refusal::AtNull);
+            return Err(Refusal::AtNull);
         }
-        Answer::Done
+        Ok(())
     }
 
     // The tests of a call on two lists: 1, 4 of the named one, 4 of the other, 5.
-    pub fn pair_test(self, words: &[u32], ends: Ends, other: Ends) -> Answer
+    #[tactic(auto, unfolding(crate::specs::Cursor::pair_test))]
+    pub fn pair_test(self, words: &[u32], ends: Ends, other: Ends) -> Result<(), Refusal>
         ensures { result ≡ pair_test words.now ends self other }
     {
-        let t = ends::tests::ends_test(words, ends);
-        if t.is_refused() {
-            return t;
-        }
+        ends::tests::ends_test(words, ends)?;
         if !ends::tests::ends_hold(words, other) {
-            return Answer::Refused(Refusal::EndsDoNotHold);
+            return Err(Refusal::EndsDoNotHold);
         }
         if !self.stands(words, ends) {
-            return Answer::Refused(Refusal::CursorDoesNotStand);
+            return Err(Refusal::CursorDoesNotStand);
         }
-        Answer::Done
+        Ok(())
     }
 }
 
@@ -161,16 +156,19 @@ impl EditedTwo {
 }
 
 // Acquires the node that a call takes in, after its tests: 9 if it is linked already. What they refuse acquires nothing.
-pub fn acquire_node(words: &mut [u32], test: Answer, new: Name) -> Answer
+#[tactic(auto, unfolding(crate::specs::Cursor::acquire_node))]
+pub fn acquire_node<T: Copy>(
+    words: &mut [u32],
+    test: Result<T, Refusal>,
+    new: Name,
+) -> Result<(), Refusal>
     ensures { outcome words.new result ≡ acquire_node words.old test new }
 {
-    if test.is_refused() {
-        return test;
-    }
+    test?;
     if !LinkOps::acquire_link(words, new) {
-        return Answer::Refused(Refusal::AlreadyLinked);
+        return Err(Refusal::AlreadyLinked);
     }
-    Answer::Done
+    Ok(())
 }
 
 // One of two names.

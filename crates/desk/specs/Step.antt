@@ -1,6 +1,6 @@
 -- One step of a desk (document 01, 'Command lines'), of any number of nodes and of lists. Marks are lent for the commands
 -- that follow a chain.
-use Rattle.std.specs.Prelude.{ℕ, Bool, ◌&&◌, cond, List, map, ltb, leb, eqb, length, get_or, set, replicate}
+use Rattle.std.specs.Prelude.{ℕ, Bool, ◌&&◌, cond, List, map, ltb, leb, eqb, length, get_or, set, replicate, Option, Some, None}
 use Rattle.words.specs.Names.{directory_fits, unlinked_marker}
 use Rattle.words.specs.Pool.{Outcome, outcome}
 use Rattle.answers.specs.declared.Refusal.{Refusal}
@@ -11,14 +11,11 @@ use Rattle.cursor.specs.Cursor.{null_cursor}
 use Rattle.walk.specs.Marks.{Marking, marking}
 use Rattle.audit.specs.Audit.{audit_all}
 use Rattle.lines.specs.declared.line.Order.{Order}
-use Rattle.lines.specs.declared.line.Parsed.{Parsed}
-use Rattle.lines.specs.declared.line.Parsed.TheVariants.{Right, Malformed as Wrong}
 use Rattle.lines.specs.Lines.{tested}
 use Rattle.lines.specs.declared.answer.Reply.{Reply}
 use Rattle.desk.specs.declared.Row.{Row}
 use Rattle.desk.specs.declared.Worked.{Worked}
 use Rattle.desk.specs.Work.{row, on_rows, clearing}
-use Rattle.lines.specs.Answers.{reply}
 use Rattle.desk.specs.Reply.{reply_to, reply_to_audit, reply_unread}
 
 -- A desk: the words of its nodes, and its lists in order, each with its ends and the cursor that is kept.
@@ -92,14 +89,14 @@ unfoldable pub unread : Desk → List ℕ → Refusal → Marking DeskStepped
 unread d ms r = marking ms (desk_stepped d (reply_unread r))
 
 -- A line that was tested for 11: 1, the audit, 2, and then the command.
-abbrev pub step_tested : Desk → List ℕ → Parsed → Marking DeskStepped
-step_tested d ms Wrong = unread d ms Malformed
-step_tested d ms (Right o) =
+abbrev pub step_tested : Desk → List ℕ → Option Order → Marking DeskStepped
+step_tested d ms None = unread d ms Malformed
+step_tested d ms (Some o) =
     let done = put_back d o (command d.words ms (row_at d o.list) (row_at d o.other) o) in
     cond (desk_fits d ms)
     (cond (eqb o.code 20) (audited d ms) (cond (lists_there d o) done (unread d ms NoSuchList)))
     (unread d ms Size)
 
 -- One line, whoever hands it in: 11 is tested first.
-abbrev pub step : Desk → List ℕ → Parsed → Marking DeskStepped
+abbrev pub step : Desk → List ℕ → Option Order → Marking DeskStepped
 step d ms p = step_tested d ms (tested p)

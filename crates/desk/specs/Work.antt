@@ -1,14 +1,12 @@
 -- One command on the lists that it names (document 01, 'Command lines' and 'Edits'): the call that it stands for, and what
 -- becomes of the cursors that the desk keeps.
-use Rattle.std.specs.Prelude.{ℕ, Bool, ◌&&◌, not, cond, List, eqb, length}
+use Rattle.std.specs.Prelude.{ℕ, Bool, ◌&&◌, not, cond, List, eqb, length, Err, is_err}
 use Rattle.words.specs.declared.names.Node.{Node}
 use Rattle.words.specs.Names.{pool_fits}
 use Rattle.words.specs.Pool.{Outcome, outcome}
 use Rattle.answers.specs.declared.Refusal.TheVariants.{Size, SameList, Malformed}
-use Rattle.answers.specs.declared.Answer.{Answer}
-use Rattle.answers.specs.declared.Answer.TheVariants.{Refused}
 use Rattle.ends.specs.declared.Ends.{Ends}
-use Rattle.answers.specs.Answer.{is_refused}
+use Rattle.answers.specs.Answer.{Answer, done, if_refused}
 use Rattle.ends.specs.Tests.{ends_test}
 use Rattle.cursor.specs.declared.Cursor.{Cursor}
 use Rattle.cursor.specs.declared.Edited.{Edited}
@@ -19,7 +17,7 @@ use Rattle.insert.specs.Inserts.{insert_after, insert_before}
 use Rattle.remove.specs.Removes.{remove, replace}
 use Rattle.splice.specs.Splices.{splice_after, splice_before}
 use Rattle.split.specs.Splits.{split_after, split_before}
-use Rattle.list.specs.declared.ListEdited.{ListEdited}
+use Rattle.ends.specs.declared.ListEdited.{ListEdited}
 use Rattle.list.specs.Lists.{push_front, push_back, pop_front, pop_back, take, fast_clear, reversed}
 use Rattle.walk.specs.Marks.{Marking, marking}
 use Rattle.walk.specs.Calls.{clear_all}
@@ -36,7 +34,7 @@ worked a r q = record { answer = a; named = r; other = q }
 
 -- A list after a call on it as a whole: done, its cursor is null; refused, it is as it was.
 abbrev pub nulled : Answer → Row → Ends → Row
-nulled a r e = cond (is_refused a) r (row e (null_cursor e))
+nulled a r e = cond (is_err a) r (row e (null_cursor e))
 
 -- A call at the cursor.
 unfoldable pub at_cursor : Edited → Row → Worked
@@ -56,7 +54,8 @@ taking ws r q = let d = take ws r.ends q.ends in worked d.answer (nulled d.answe
 
 -- The cursor to null, if the ends hold.
 unfoldable pub to_null : List ℕ → Row → Row → Worked
-to_null ws r q = let a = ends_test ws r.ends in worked a (nulled a r r.ends) q
+to_null ws r q =
+    if_refused (ends_test ws r.ends) (λ refusal. worked (Err refusal) r q) (worked done (nulled done r r.ends) q)
 
 -- The outcome of a call, as that of its command.
 abbrev pub with : {A : Type 0} → (A → Worked) → Outcome A → Outcome Worked
@@ -86,11 +85,11 @@ by_code code ws r q i =
     (cond (eqb code 17) (with (λ d. on_list d r q) (push_back ws e i))
     (cond (eqb code 18) (with (λ d. on_list d r q) (pop_front ws e))
     (cond (eqb code 19) (with (λ d. on_list d r q) (pop_back ws e))
-    (outcome ws (worked (Refused Malformed) r q)))))))))))))))))))
+    (outcome ws (worked (Err Malformed) r q)))))))))))))))))))
 
 -- 3 where both lists are used and are the same; else the command.
 unfoldable pub on_rows : List ℕ → Row → Row → Order → Outcome Worked
-on_rows ws r q o = cond (same_list o) (outcome ws (worked (Refused SameList) r q)) (by_code o.code ws r q (record { 0 = o.node }))
+on_rows ws r q o = cond (same_list o) (outcome ws (worked (Err SameList) r q)) (by_code o.code ws r q (record { 0 = o.node }))
 
 -- The fields are right, and the command follows no chain: any but clear and the audit, which want marks.
 unfoldable pub is_work : Order → Bool
@@ -100,8 +99,8 @@ is_work o = right_fields o && not (eqb o.code 13) && not (eqb o.code 20)
 unfoldable pub work_of : List ℕ → Row → Row → Order → Outcome Worked
 work_of ws r q o =
     cond (is_work o)
-    (cond (pool_fits (length ws)) (on_rows ws r q o) (outcome ws (worked (Refused Size) r q)))
-    (outcome ws (worked (Refused Malformed) r q))
+    (cond (pool_fits (length ws)) (on_rows ws r q o) (outcome ws (worked (Err Size) r q)))
+    (outcome ws (worked (Err Malformed) r q))
 
 -- Clear, with the walk's refusals and marks.
 unfoldable pub clearing : List ℕ → List ℕ → Row → Row → Outcome (Marking Worked)

@@ -9,14 +9,14 @@ use cursor::Cursor;
 use ends::Ends;
 
 // One list of a desk.
-#[derive(Clone, Copy)]
+#[derive(Clone, Copy, PartialEq, Eq)]
 pub struct Row {
     pub ends: Ends,
     pub cursor: Cursor,
 }
 
 // What a command hands back: the list that it names, and the other one.
-#[derive(Clone, Copy)]
+#[derive(Clone, Copy, PartialEq, Eq)]
 pub struct Worked {
     pub answer: Answer,
     pub named: Row,

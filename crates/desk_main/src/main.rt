@@ -3,11 +3,7 @@
 // A read or a write that fails ends it, and is told in one line on standard error.
 #![tactic(auto)]
 
-ghost use Rattle.std.specs.Prelude.{◌≤◌, ◌≡◌, length, IfOk};
-ghost use Rattle.batch_desk.specs.Step.{kept_of};
-ghost use Rattle.batch_desk.specs.Run.{running, run_of, finish_of};
-
-use batch_desk::{BatchDesk, Ran};
+use batch_desk::BatchDesk;
 use lines::line::Line;
 use std::io::{self, ErrorKind, Read, Stdout, Write};
 use std::process::ExitCode;
@@ -15,12 +11,11 @@ use std::process::ExitCode;
 // A read of 65,536 bytes ends at most as many lines, of eleven answer bytes each.
 const ROOM: usize = 720896;
 
-// After a read: the desk, the line that is not ended yet, and whether there is more to do.
+// Where a run goes on: the desk, and the line that is not ended yet.
 #[derive(Clone, Copy)]
 struct Next {
     desk: BatchDesk,
     line: Line,
-    more: bool,
 }
 
 // What ended the run before its input: a read or a write that failed.
@@ -35,113 +30,79 @@ fn interrupted(error: &io::Error) -> bool {
     error.kind() == ErrorKind::Interrupted
 }
 
-// One write of the bytes from a place up to an end, of which it may take a part: where the bytes that are not written yet begin.
-fn put(mut output: Stdout, out: &[u8], from: usize, to: usize) -> io::Result<usize>
-    requires from_le_to { from ≤ to }
-    requires to_in_bounds { to ≤ length out.now }
-    ensures from_le_at { IfOk result (λ at. from ≤ at) }
-    ensures at_le_to { IfOk result (λ at. at ≤ to) }
-{
-    match output.write(&out[from..to]) {
+// One write of the bytes, of which it may take a part: the bytes that are left.
+fn put(mut output: Stdout, bytes: &[u8]) -> io::Result<&[u8]> {
+    match output.write(bytes) {
         Ok(0) => Err(io::Error::from(ErrorKind::WriteZero)),
-        Ok(n) => Ok(from + n),
-        Err(e) if interrupted(&e) => Ok(from),
+        Ok(n) => Ok(&bytes[n..]),
+        Err(e) if interrupted(&e) => Ok(bytes),
         Err(e) => Err(e),
     }
 }
 
-// Writes what was answered, all of it.
-fn send(output: Stdout, out: &[u8], wrote: usize) -> io::Result<()> {
-    if out.len() < wrote {
-        return Err(io::Error::from(ErrorKind::WriteZero));
-    }
-    let mut at = 0;
+// Writes all of the bytes. (`write_all` gives up after so many signals in a row.) The bound of the loop is never met, nor is the
+// error after it: a loop without one needs leave to wait.
+fn send(output: Stdout, bytes: &[u8]) -> io::Result<()> {
+    let mut left = bytes;
     for _ in 0..u64::MAX {
-        if wrote <= at {
+        if left.is_empty() {
             return Ok(());
         }
-        at = put(output, out, at, wrote)?;
+        left = put(output, left)?;
     }
     Err(io::Error::from(ErrorKind::TimedOut))
 }
 
-fn send_in(output: Stdout, out: &[u8; ROOM], wrote: usize) -> Result<(), Failure> {
-    send(output, out, wrote).map_err(Failure::Write)
-}
-
-fn run_in(desk: BatchDesk, line: Line, input: &[u8], out: &mut [u8; ROOM]) -> Ran
-    ensures { running out.new (kept_of result.desk) result.line result.wrote ≡ run_of (kept_of desk) line input.now out.old }
-{
-    batch_desk::run(desk, line, input, out)
-}
-
-fn finish_in(desk: BatchDesk, line: Line, out: &mut [u8; ROOM]) -> Ran
-    ensures { running out.new (kept_of result.desk) result.line result.wrote ≡ finish_of (kept_of desk) line out.old 0 }
-{
-    batch_desk::finish(desk, line, out, 0)
-}
-
-// A read that failed ends the run, unless a signal came: then there is more to do. The line that is not ended is not run.
-fn unread(desk: BatchDesk, line: Line, error: io::Error) -> Result<Next, Failure> {
-    if interrupted(&error) {
-        return Ok(Next {
-            desk,
-            line,
-            more: true,
-        });
+// Writes what was answered, all of it.
+fn answered(output: Stdout, out: &[u8], wrote: usize) -> Result<(), Failure> {
+    match out.get(..wrote) {
+        Some(answers) => send(output, answers).map_err(Failure::Write),
+        None => Err(Failure::Write(io::Error::from(ErrorKind::WriteZero))),
     }
-    Err(Failure::Read(error))
 }
 
-// One read and its answers; at the end of the input, the answer to a line that is not ended.
-fn turn(
-    rt: HostRuntime,
-    desk: BatchDesk,
-    line: Line,
-    out: &mut [u8; ROOM],
-) -> Result<Next, Failure> {
+// One read and its answers; at the end of the input, the answer to a line that is not ended, and nothing is next. A read that
+// failed ends the run, unless a signal came. The line that is not ended is not run then.
+fn turn(rt: HostRuntime, at: Next, out: &mut [u8; ROOM]) -> Result<Option<Next>, Failure> {
     let mut buf = [0u8; 65536];
     let n = match rt.stdin().read(&mut buf) {
         Ok(n) => n,
-        Err(e) => return unread(desk, line, e),
+        Err(e) if interrupted(&e) => return Ok(Some(at)),
+        Err(e) => return Err(Failure::Read(e)),
     };
-    let r = if n == 0 {
-        finish_in(desk, line, out)
-    } else {
-        run_in(desk, line, &buf[..n], out)
-    };
-    send_in(rt.stdout(), out, r.wrote)?;
-    let d = r.desk;
-    let l = r.line;
-    Ok(Next {
-        desk: d,
-        line: l,
-        more: n > 0,
-    })
+    if n == 0 {
+        let r = batch_desk::finish(at.desk, at.line, out, 0);
+        answered(rt.stdout(), out, r.wrote)?;
+        return Ok(None);
+    }
+    let r = batch_desk::run(at.desk, at.line, &buf[..n], out);
+    answered(rt.stdout(), out, r.wrote)?;
+    Ok(Some(Next {
+        desk: r.desk,
+        line: r.line,
+    }))
 }
 
-// The whole run.
+// The whole run. The bound of the loop is never met, as in `send`.
 fn answer(rt: HostRuntime) -> Result<(), Failure> {
     let mut out = [0u8; ROOM];
-    let mut desk = batch_desk::fresh();
-    let mut line = Line::new();
+    let mut at = Next {
+        desk: batch_desk::fresh(),
+        line: Line::new(),
+    };
     for _ in 0..u64::MAX {
-        let next = turn(rt, desk, line, &mut out)?;
-        if !next.more {
-            return Ok(());
+        match turn(rt, at, &mut out)? {
+            Some(next) => at = next,
+            None => return Ok(()),
         }
-        desk = next.desk;
-        line = next.line;
     }
     Ok(())
 }
 
 // The system's words for an error, without the number that std sets after them.
 fn without_number(text: &str) -> &str {
-    match text.split_once(" (os error ") {
-        Some((words, _)) => words,
-        None => text,
-    }
+    text.split_once(" (os error ")
+        .map_or(text, |(words, _)| words)
 }
 
 // Tells in one line on standard error what failed, and why.

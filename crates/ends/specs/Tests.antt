@@ -6,10 +6,8 @@ use Rattle.words.specs.Names.{is_name, pool_fits}
 use Rattle.words.specs.Pool.{word_at}
 use Rattle.links.specs.XorOps.{next_of}
 use Rattle.answers.specs.declared.Refusal.TheVariants.{Size, EndsDoNotHold}
-use Rattle.answers.specs.declared.Answer.{Answer}
-use Rattle.answers.specs.declared.Answer.TheVariants.{Done}
 use Rattle.ends.specs.declared.Ends.{Ends}
-use Rattle.answers.specs.Answer.{need}
+use Rattle.answers.specs.Answer.{Tested, passed, need}
 use Rattle.ends.specs.Ends.{is_empty}
 
 -- w is null or a name in range, and null exactly if `alone`.
@@ -48,5 +46,5 @@ stands ws e c p q =
     && side_holds ws c q e.tail.0
 
 -- The tests of a call that takes ends, in order.
-unfoldable pub ends_test : List ℕ → Ends → Answer
-ends_test ws e = need (pool_fits (length ws)) Size (need (ends_hold ws e) EndsDoNotHold Done)
+unfoldable pub ends_test : List ℕ → Ends → Tested
+ends_test ws e = need (pool_fits (length ws)) Size (need (ends_hold ws e) EndsDoNotHold passed)

@@ -5,14 +5,22 @@
 pub mod tests;
 
 ghost use Rattle.std.specs.Prelude.{◌≡◌};
-ghost use Rattle.ends.specs.Ends.{ends_of, empty_ends, is_empty, turned};
+ghost use Rattle.ends.specs.Ends.{ends_of, empty_ends, is_empty, turned, list_edited};
 
+use answers::Answer;
 use words::names::Name;
 
-#[derive(Clone, Copy)]
+#[derive(Clone, Copy, PartialEq, Eq)]
 pub struct Ends {
     pub head: Name,
     pub tail: Name,
+}
+
+// What a call on a list by its ends hands back.
+#[derive(Clone, Copy, PartialEq, Eq)]
+pub struct ListEdited {
+    pub answer: Answer,
+    pub ends: Ends,
 }
 
 impl Ends {
@@ -41,5 +49,14 @@ impl Ends {
         ensures { result ≡ Rattle.ends.specs.Ends.turned self }
     {
         Ends::new(self.tail, self.head)
+    }
+}
+
+impl ListEdited {
+    // Every one is made here.
+    pub fn new(answer: Answer, ends: Ends) -> ListEdited
+        ensures { result ≡ list_edited answer ends }
+    {
+        ListEdited { answer, ends }
     }
 }

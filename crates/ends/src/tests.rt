@@ -3,12 +3,13 @@ ghost use Rattle.std.specs.Prelude.{◌≡◌};
 ghost use Rattle.ends.specs.Tests.{link_with, ends_hold, side_holds, ends_test};
 
 use crate::Ends;
-use answers::{Answer, Refusal};
+use answers::Refusal;
 use links::xor_ops::XorLinkedListOps;
 use words::link_ops::LinkOps;
 use words::names::Name;
 
 // The word is null or a name in range, and null exactly if `alone`.
+#[tactic(auto, unfolding(crate::specs::Tests::link_with))]
 fn link_with(len: usize, w: Name, alone: bool) -> bool
     ensures { result ≡ link_with len w.0 alone }
 {
@@ -16,11 +17,12 @@ fn link_with(len: usize, w: Name, alone: bool) -> bool
     (null | w.in_range(len)) & (null == alone)
 }
 
+#[tactic(auto, unfolding(crate::specs::Tests::ends_hold))]
 pub fn ends_hold(words: &[u32], ends: Ends) -> bool
     ensures { result ≡ ends_hold words.now ends }
 {
     let n = words.len();
-    let alone = ends.head.0 == ends.tail.0;
+    let alone = ends.head == ends.tail;
     (ends.head.is_null() & ends.tail.is_null())
         | (ends.head.in_range(n)
             & ends.tail.in_range(n)
@@ -29,6 +31,7 @@ pub fn ends_hold(words: &[u32], ends: Ends) -> bool
 }
 
 // A neighbour of the cursor's node, if it is one: what is on its far side is null or a name in range, null exactly at the end.
+#[tactic(auto, unfolding(crate::specs::Tests::side_holds))]
 fn side_holds(words: &[u32], current: Name, side: Name, end: Name) -> bool
     ensures { result ≡ side_holds words.now current.0 side.0 end.0 }
 {
@@ -36,37 +39,39 @@ fn side_holds(words: &[u32], current: Name, side: Name, end: Name) -> bool
         | link_with(
             words.len(),
             XorLinkedListOps::next(words, side, current),
-            side.0 == end.0,
+            side == end,
         )
 }
 
 // A cursor with these three names stands on the list.
+#[tactic(auto, unfolding(crate::specs::Tests::stands))]
 pub fn stands(words: &[u32], ends: Ends, current: Name, prev: Name, next: Name) -> bool
     ensures { result ≡ Rattle.ends.specs.Tests.stands words.now ends current.0 prev.0 next.0 }
 {
     let n = words.len();
-    (current.is_null() & (prev.0 == ends.tail.0) & (next.0 == ends.head.0))
+    (current.is_null() & (prev == ends.tail) & (next == ends.head))
         | (!ends.is_empty()
             & current.in_range(n)
-            & link_with(n, prev, current.0 == ends.head.0)
-            & link_with(n, next, current.0 == ends.tail.0)
-            & !(current.0 == prev.0)
-            & !(current.0 == next.0)
-            & (prev.is_null() | !(prev.0 == next.0))
+            & link_with(n, prev, current == ends.head)
+            & link_with(n, next, current == ends.tail)
+            & (current != prev)
+            & (current != next)
+            & (prev.is_null() | (prev != next))
             & (LinkOps::get(words, current).0 == prev.0 ^ next.0)
             & side_holds(words, current, prev, ends.head)
             & side_holds(words, current, next, ends.tail))
 }
 
 // The tests of a call that takes ends: 1, then 4.
-pub fn ends_test(words: &[u32], ends: Ends) -> Answer
+#[tactic(auto, unfolding(crate::specs::Tests::ends_test))]
+pub fn ends_test(words: &[u32], ends: Ends) -> Result<(), Refusal>
     ensures { result ≡ ends_test words.now ends }
 {
     if !words::names::pool_fits(words.len()) {
-        return Answer::Refused(Refusal::Size);
+        return Err(Refusal::Size);
     }
     if !ends_hold(words, ends) {
-        return Answer::Refused(Refusal::EndsDoNotHold);
+        return Err(Refusal::EndsDoNotHold);
     }
-    Answer::Done
+    Ok(())
 }

@@ -2,16 +2,13 @@
 #![tactic(auto)]
 
 use std::io::{self, Stdout};
-use xor_linked_list::{Found, Node, XorLinkedList};
+use xor_linked_list::{Node, XorLinkedList};
 
 // Writes a label and a node's number, or that there is none.
-fn show(out: Stdout, label: &str, found: Found) -> io::Result<()> {
+fn show(out: Stdout, label: &str, found: Option<Node>) -> io::Result<()> {
     match found {
-        Found::At(node) => {
-            let number = node.0;
-            println!(out; "{label}{number}")
-        }
-        Found::Nothing => println!(out; "{label}none"),
+        Some(Node(number)) => println!(out; "{label}{number}"),
+        None => println!(out; "{label}none"),
     }
 }
 

@@ -1,6 +1,7 @@
 // The calls that may change the words: 33 to 53 of the table.
 use crate::args::Args;
 use crate::values;
+use crate::values::{Value, Values};
 use cursor::{Cursor, Edited, EditedTwo};
 use links::between;
 use links::xor_ops::XorLinkedListOps;
@@ -9,30 +10,16 @@ use words::link_ops::LinkOps;
 use words::names::Name;
 
 // The steps on words, at the cursor's three names. The node's number is the name of the end of a splice.
-fn step(code: usize, words: &mut [u32], c: Cursor, end: u32) -> u32 {
+fn step(code: usize, words: &mut [u32], c: Cursor, end: u32) -> Values {
     match code {
-        33 => LinkOps::acquire_link(words, c.current) as u32,
-        34 => {
-            LinkOps::release_link(words, c.current);
-            0
-        }
-        35 => {
-            XorLinkedListOps::set(words, c.current, c.prev, c.next);
-            0
-        }
-        36 => {
-            XorLinkedListOps::replace_next_or_prev(words, c.current, c.prev, c.next);
-            0
-        }
-        37 => {
-            between::link_between(words, c.current, c.prev, c.next);
-            0
-        }
-        _ => {
-            between::splice_between(words, c.current, Name(end), c.prev, c.next);
-            0
-        }
+        33 => return values::row(&[Value::Flag(LinkOps::acquire_link(words, c.current))]),
+        34 => LinkOps::release_link(words, c.current),
+        35 => XorLinkedListOps::set(words, c.current, c.prev, c.next),
+        36 => XorLinkedListOps::replace_next_or_prev(words, c.current, c.prev, c.next),
+        37 => between::link_between(words, c.current, c.prev, c.next),
+        _ => between::splice_between(words, c.current, Name(end), c.prev, c.next),
     }
+    values::NONE
 }
 
 fn edited(code: usize, words: &mut [u32], a: Args) -> Edited {
@@ -65,16 +52,11 @@ fn list_edited(code: usize, words: &mut [u32], a: Args) -> ListEdited {
     }
 }
 
-pub(crate) fn call(code: usize, a: Args, words: &mut [u32]) -> [u32; 11] {
-    if code < 39 {
-        let n = step(code, words, a.cursor, a.node.0);
-        return [n, 0, 0, 0, 0, 0, 0, 0, 0, 0, 0];
+pub(crate) fn call(code: usize, a: Args, words: &mut [u32]) -> Values {
+    match code {
+        33..=38 => step(code, words, a.cursor, a.node.0),
+        39..=43 => values::edited(edited(code, words, a)),
+        44..=47 => values::edited_two(edited_two(code, words, a)),
+        _ => values::list_edited(list_edited(code, words, a)),
     }
-    if code < 44 {
-        return values::edited(edited(code, words, a));
-    }
-    if code < 48 {
-        return values::edited_two(edited_two(code, words, a));
-    }
-    values::list_edited(list_edited(code, words, a))
 }

@@ -20,22 +20,13 @@ mod values;
 
 use std::io::{self, Read, Stdout};
 
-// A case, if a line ends here. Where the next line begins is handed back.
-fn ended(out: Stdout, input: &[u8], from: usize, i: usize) -> io::Result<usize> {
-    if line::byte(input, i) != b'\n' {
-        return Ok(from);
-    }
-    let to = std::num::wrapping_add_usize(i, 1);
-    let case = line::part(input, from, to);
-    out.write_all(case)?;
-    run::run(out, case)?;
-    Ok(to)
-}
-
 fn cases(out: Stdout, input: &[u8]) -> io::Result<()> {
-    let mut from = 0;
-    for i in 0..input.len() {
-        from = ended(out, input, from, i)?;
+    for case in input.split_inclusive(|b| *b == b'\n') {
+        // What stands after the last line feed is no case.
+        if case.ends_with(b"\n") {
+            out.write_all(case)?;
+            run::run(out, case)?;
+        }
     }
     Ok(())
 }

@@ -1,85 +1,108 @@
-// What a call hands back, as numbers in the order in which they are shown.
-use cursor::{Edited, EditedTwo};
+// What a call hands back, as values in the order in which they are shown.
+use answers::{Answer, Refusal};
+use cursor::{Cursor, Edited, EditedTwo};
+use ends::Ends;
 use iter::Stepped;
 use list::ListEdited;
-use words::names::Found;
+use std::fmt::{self, Display, Formatter, Write};
+use words::names::{Name, Node};
 
-// The node's number, or one for none. A node is shown by two of these, with 0 and with 1 for none.
-pub(crate) fn node(f: Found, none: u32) -> u32 {
-    match f {
-        Found::At(node) => node.0,
-        Found::Nothing => none,
+// Each is shown after a blank: a number; yes or no; a node, or a dash; a byte, or nothing.
+#[derive(Clone, Copy)]
+pub(crate) enum Value {
+    Number(u32),
+    Flag(bool),
+    Found(Option<Node>),
+    Byte(Option<u8>),
+}
+
+// The most values that a call hands back. Those after its own are 0 and are not shown: its text has a # for each of its own.
+pub(crate) type Values = [Value; 11];
+
+pub(crate) const NONE: Values = [Value::Number(0); 11];
+
+impl From<u32> for Value {
+    fn from(n: u32) -> Value {
+        Value::Number(n)
     }
 }
 
-pub(crate) fn edited(r: Edited) -> [u32; 11] {
-    let a = r.answer;
-    let f = a.node();
-    [
-        a.number(),
-        node(f, 0),
-        node(f, 1),
-        r.ends.head.0,
-        r.ends.tail.0,
-        r.cursor.current.0,
-        r.cursor.prev.0,
-        r.cursor.next.0,
-        0,
-        0,
-        0,
-    ]
+impl From<Name> for Value {
+    fn from(name: Name) -> Value {
+        Value::Number(name.0)
+    }
 }
 
-pub(crate) fn edited_two(r: EditedTwo) -> [u32; 11] {
-    let a = r.answer;
-    let f = a.node();
-    [
-        a.number(),
-        node(f, 0),
-        node(f, 1),
-        r.ends.head.0,
-        r.ends.tail.0,
-        r.cursor.current.0,
-        r.cursor.prev.0,
-        r.cursor.next.0,
-        r.other.head.0,
-        r.other.tail.0,
-        0,
-    ]
+impl Display for Value {
+    fn fmt<W: Write>(&self, f: &mut Formatter<W>) -> fmt::Result {
+        match *self {
+            Value::Number(n) => write!(f, " {n}"),
+            Value::Flag(true) => f.write_str(" yes"),
+            Value::Flag(false) => f.write_str(" no"),
+            Value::Found(Some(node)) => write!(f, " {}", node.0),
+            Value::Found(None) => f.write_str(" -"),
+            Value::Byte(Some(b)) => write!(f, " {b}"),
+            Value::Byte(None) => Ok(()),
+        }
+    }
 }
 
-pub(crate) fn list_edited(r: ListEdited) -> [u32; 11] {
-    let a = r.answer;
-    let f = a.node();
-    [
-        a.number(),
-        node(f, 0),
-        node(f, 1),
-        r.ends.head.0,
-        r.ends.tail.0,
-        0,
-        0,
-        0,
-        0,
-        0,
-        0,
-    ]
+// The slots become the values.
+fn put<T: Copy + Into<Value>>(slots: &mut [Value], values: &[T]) {
+    for (slot, value) in slots.iter_mut().zip(values) {
+        *slot = (*value).into();
+    }
 }
 
-pub(crate) fn stepped(r: Stepped) -> [u32; 11] {
-    let a = r.answer;
-    let f = a.node();
-    [
-        a.number(),
-        node(f, 0),
-        node(f, 1),
-        r.iter.prev_head.0,
-        r.iter.head.0,
-        r.iter.tail.0,
-        r.iter.next_tail.0,
-        0,
-        0,
-        0,
-        0,
-    ]
+// The values of a call that hands back values, numbers or names.
+pub(crate) fn row<T: Copy + Into<Value>>(values: &[T]) -> Values {
+    let mut row = NONE;
+    put(&mut row, values);
+    row
+}
+
+// An answer's number and the node that it hands out, and names.
+pub(crate) fn answered(answer: Answer, names: &[Name]) -> Values {
+    let mut row = row(&[
+        Value::Number(answers::number(answer)),
+        Value::Found(answers::handed(answer)),
+    ]);
+    put(&mut row[2..], names);
+    row
+}
+
+pub(crate) fn edited(r: Edited) -> Values {
+    let Cursor {
+        current,
+        prev,
+        next,
+    } = r.cursor;
+    answered(r.answer, &[r.ends.head, r.ends.tail, current, prev, next])
+}
+
+pub(crate) fn edited_two(r: EditedTwo) -> Values {
+    let Cursor {
+        current,
+        prev,
+        next,
+    } = r.cursor;
+    let Ends { head, tail } = r.other;
+    answered(
+        r.answer,
+        &[r.ends.head, r.ends.tail, current, prev, next, head, tail],
+    )
+}
+
+pub(crate) fn list_edited(r: ListEdited) -> Values {
+    answered(r.answer, &[r.ends.head, r.ends.tail])
+}
+
+pub(crate) fn stepped(r: Stepped) -> Values {
+    let i = r.iter;
+    answered(r.answer, &[i.prev_head, i.head, i.tail, i.next_tail])
+}
+
+// A test's number: 0 if it is passed.
+pub(crate) fn tested(test: Result<(), Refusal>) -> Value {
+    Value::Number(answers::number(answers::answered(test)))
 }

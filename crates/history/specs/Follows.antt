@@ -1,12 +1,11 @@
 -- What it is for a desk to follow a history (demand 3).
-use Rattle.std.specs.Prelude.{ℕ, ◌<◌, ◌≤◌, ◌≡◌, Bool, true, false, List, [], ◌∷◌, map, eqb, length, get_or, set, replicate}
+use Rattle.std.specs.Prelude.{ℕ, ◌<◌, ◌≤◌, ◌≡◌, Bool, true, false, List, [], ◌∷◌, map, eqb, length, get_or, set, replicate, None, Option, Some}
 use Rattle.std.specs.Int.Bits.{bit_xor}
 use Rattle.words.specs.Names.{unlinked_marker, is_linked}
 use Rattle.words.specs.Afresh.{afresh_all}
 use Rattle.words.specs.Changes.{AtMostFour}
 use Rattle.cursor.specs.Plain.{nodes, Sound}
-use Rattle.lines.specs.declared.line.Parsed.{Parsed}
-use Rattle.lines.specs.declared.line.Parsed.TheVariants.{Right, Malformed as Wrong}
+use Rattle.lines.specs.declared.line.Order.{Order}
 use Rattle.desk.specs.Step.{Desk, DeskStepped, row_at}
 use Rattle.history.specs.History.{History, PlainStepped, place_at, held, is_held}
 
@@ -28,16 +27,16 @@ unlinked_but ws [] = replicate (length ws) unlinked_marker
 unlinked_but ws (x ∷ st) = set (unlinked_but ws st) x (get_or ws x 0)
 
 -- The line is a clear, a reversal.
-abbrev pub is_clear : Parsed → Bool
-is_clear Wrong = false
-is_clear (Right o) = eqb o.code 13
+abbrev pub is_clear : Option Order → Bool
+is_clear None = false
+is_clear (Some o) = eqb o.code 13
 
-abbrev pub is_reversal : Parsed → Bool
-is_reversal Wrong = false
-is_reversal (Right o) = eqb o.code 11
+abbrev pub is_reversal : Option Order → Bool
+is_reversal None = false
+is_reversal (Some o) = eqb o.code 11
 
 -- The line p took the desk d to what s says, and the history to what t says.
-pub record Follows (n : ℕ) (d : Desk) (p : Parsed) (s : DeskStepped) (t : PlainStepped) : Type 0 where
+pub record Follows (n : ℕ) (d : Desk) (p : Option Order) (s : DeskStepped) (t : PlainStepped) : Type 0 where
   pub agrees : Agrees n s.desk t.history
   pub reply : s.reply ≡ t.reply
   -- the words are those written afresh from the sequences, stranded words being as they were before the line

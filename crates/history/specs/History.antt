@@ -1,10 +1,8 @@
 -- The history of a desk, on plain sequences, with no word in it (document 01, 'Command lines'; demand 3): a place on the
 -- sequence of each list, and the nodes that fast clears have stranded. n is how many nodes there are.
-use Rattle.std.specs.Prelude.{ℕ, ◌+◌, Bool, true, false, ◌&&◌, cond, List, [], ◌∷◌, ◌++◌, reverse, ltb, eqb, length, get_or, set, replicate}
+use Rattle.std.specs.Prelude.{ℕ, ◌+◌, Bool, true, false, ◌&&◌, cond, List, [], ◌∷◌, ◌++◌, reverse, ltb, eqb, length, get_or, set, replicate, Err, is_err, None, Option, Some}
 use Rattle.answers.specs.declared.Refusal.TheVariants.{NoSuchList, SameList, NotEmpty, Malformed}
-use Rattle.answers.specs.declared.Answer.{Answer}
-use Rattle.answers.specs.declared.Answer.TheVariants.{Done, Refused}
-use Rattle.answers.specs.Answer.{answer_number, handed, is_refused}
+use Rattle.answers.specs.Answer.{answer_number, handed, Answer, done}
 use Rattle.cursor.specs.Plain.{Place, at, at_null, nodes, next_place, prev_place}
 use Rattle.cursor.specs.Does.{Plain}
 use Rattle.insert.specs.Plain.{plain_insert_after, plain_insert_before}
@@ -14,8 +12,6 @@ use Rattle.split.specs.Plain.{plain_split_after, plain_split_before}
 use Rattle.list.specs.Plain.{PlainList, plain_push_front, plain_push_back, plain_pop_front, plain_pop_back}
 use Rattle.audit.specs.Audit.{bit}
 use Rattle.lines.specs.declared.line.Order.{Order}
-use Rattle.lines.specs.declared.line.Parsed.{Parsed}
-use Rattle.lines.specs.declared.line.Parsed.TheVariants.{Right, Malformed as Wrong}
 use Rattle.lines.specs.Lines.{same_list, tested}
 use Rattle.lines.specs.declared.answer.Reply.{Reply}
 use Rattle.lines.specs.Answers.{reply}
@@ -71,7 +67,7 @@ plain_worked a z y st = record { answer = a; named = z; other = y; stranded = st
 
 -- At null of the new sequence; refused, the place as it was.
 abbrev pub settled : Answer → Place → List ℕ → Place
-settled a z xs = cond (is_refused a) z (at_null xs)
+settled a z xs = cond (is_err a) z (at_null xs)
 
 -- An edit at the place; an edit of the list, whose cursor becomes null; and one of two lists, where the other's does.
 unfoldable pub at_place : Plain → Place → List ℕ → PlainWorked
@@ -89,7 +85,7 @@ is_none [] = true
 is_none (x ∷ xs) = false
 
 unfoldable pub plain_take : Place → Place → List ℕ → PlainWorked
-plain_take z y st = cond (is_none (nodes y)) (plain_worked Done (at_null []) (at_null (nodes z)) st) (plain_worked (Refused NotEmpty) z y st)
+plain_take z y st = cond (is_none (nodes y)) (plain_worked done (at_null []) (at_null (nodes z)) st) (plain_worked (Err NotEmpty) z y st)
 
 -- The command with this code, at z, with y on the other list and the node i.
 unfoldable pub plain_by_code : ℕ → ℕ → History → Place → Place → ℕ → PlainWorked
@@ -103,23 +99,23 @@ plain_by_code code n h z y i =
     (cond (eqb code 6) (on_two (plain_splice_before (nodes y) z) y st)
     (cond (eqb code 7) (on_two (plain_split_after (nodes y) z) y st)
     (cond (eqb code 8) (on_two (plain_split_before (nodes y) z) y st)
-    (cond (eqb code 9) (plain_worked Done (next_place z) y st)
-    (cond (eqb code 10) (plain_worked Done (prev_place z) y st)
-    (cond (eqb code 11) (plain_worked Done (at_null (reverse (nodes z))) y st)
+    (cond (eqb code 9) (plain_worked done (next_place z) y st)
+    (cond (eqb code 10) (plain_worked done (prev_place z) y st)
+    (cond (eqb code 11) (plain_worked done (at_null (reverse (nodes z))) y st)
     (cond (eqb code 12) (plain_take z y st)
-    (cond (eqb code 14) (plain_worked Done (at_null []) y (nodes z ++ st))
-    (cond (eqb code 15) (plain_worked Done (at_null (nodes z)) y st)
+    (cond (eqb code 14) (plain_worked done (at_null []) y (nodes z ++ st))
+    (cond (eqb code 15) (plain_worked done (at_null (nodes z)) y st)
     (cond (eqb code 16) (on_sequence (plain_push_front n (is_held h) i (nodes z)) z y st)
     (cond (eqb code 17) (on_sequence (plain_push_back n (is_held h) i (nodes z)) z y st)
     (cond (eqb code 18) (on_sequence (plain_pop_front (is_held h) (nodes z)) z y st)
     (cond (eqb code 19) (on_sequence (plain_pop_back (is_held h) (nodes z)) z y st)
-    (plain_worked (Refused Malformed) z y st))))))))))))))))))
+    (plain_worked (Err Malformed) z y st))))))))))))))))))
 
 -- 3 where both lists are used and are the same; else the command, clear being 0d.
 unfoldable pub plain_command : ℕ → History → Order → Place → Place → PlainWorked
 plain_command n h o z y =
-    cond (eqb o.code 13) (plain_worked Done (at_null []) y h.stranded)
-    (cond (same_list o) (plain_worked (Refused SameList) z y h.stranded)
+    cond (eqb o.code 13) (plain_worked done (at_null []) y h.stranded)
+    (cond (same_list o) (plain_worked (Err SameList) z y h.stranded)
     (plain_by_code o.code n h z y o.node))
 
 -- ---- one line
@@ -145,14 +141,14 @@ unfoldable pub plain_put_back : History → Order → PlainWorked → PlainStepp
 plain_put_back h o t = plain_stepped (record { places = set (set h.places o.other t.other) o.list t.named; stranded = t.stranded }) (plain_reply_to t)
 
 -- A line that was tested for 11: the audit, 2, and then the command.
-abbrev pub plain_step_tested : ℕ → History → Parsed → PlainStepped
-plain_step_tested n h Wrong = plain_stepped h (reply_unread Malformed)
-plain_step_tested n h (Right o) =
+abbrev pub plain_step_tested : ℕ → History → Option Order → PlainStepped
+plain_step_tested n h None = plain_stepped h (reply_unread Malformed)
+plain_step_tested n h (Some o) =
     let k = length h.places in
     cond (eqb o.code 20) (plain_stepped h (reply 0 (size h.places) (length h.stranded)))
     (cond (ltb o.list k && ltb o.other k) (plain_put_back h o (plain_command n h o (place_at h o.list) (place_at h o.other)))
     (plain_stepped h (reply_unread NoSuchList)))
 
 -- One line, whoever hands it in: 11 is tested first.
-abbrev pub plain_step : ℕ → History → Parsed → PlainStepped
+abbrev pub plain_step : ℕ → History → Option Order → PlainStepped
 plain_step n h p = plain_step_tested n h (tested p)

@@ -1,6 +1,6 @@
 -- Many lines, one after another (demand 3).
-use Rattle.std.specs.Prelude.{ℕ, ◌≡◌, Bool, ◌||◌, List, [], ◌∷◌, eqb, length}
-use Rattle.lines.specs.declared.line.Parsed.{Parsed}
+use Rattle.std.specs.Prelude.{ℕ, ◌≡◌, Bool, ◌||◌, List, [], ◌∷◌, eqb, length, Option}
+use Rattle.lines.specs.declared.line.Order.{Order}
 use Rattle.lines.specs.Lines.{line_of}
 use Rattle.lines.specs.declared.answer.Reply.{Reply}
 use Rattle.desk.specs.Step.{Desk, step}
@@ -26,11 +26,11 @@ history_after n h [] = h
 history_after n h (g ∷ gs) = history_after n (plain_step n h (line_of g.line)).history gs
 
 -- The answers to these lines: the history's, and those of a desk that is lent the same marks for each.
-unfoldable pub plain_answers : ℕ → History → List Parsed → List Reply
+unfoldable pub plain_answers : ℕ → History → List (Option Order) → List Reply
 plain_answers n h [] = []
 plain_answers n h (p ∷ ps) = let t = plain_step n h p in t.reply ∷ plain_answers n t.history ps
 
-unfoldable pub answer_all : Desk → List ℕ → List Parsed → List Reply
+unfoldable pub answer_all : Desk → List ℕ → List (Option Order) → List Reply
 answer_all d ms [] = []
 answer_all d ms (p ∷ ps) = let s = (step d ms p).result in s.reply ∷ answer_all s.desk ms ps
 

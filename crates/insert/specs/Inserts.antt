@@ -5,7 +5,7 @@ use Rattle.words.specs.declared.names.Name.{Name}
 use Rattle.words.specs.Names.{is_null, naming}
 use Rattle.words.specs.Pool.{Outcome, outcome}
 use Rattle.links.specs.XorOps.{link_between}
-use Rattle.answers.specs.declared.Answer.TheVariants.{Done}
+use Rattle.answers.specs.Answer.{done}
 use Rattle.ends.specs.declared.Ends.{Ends}
 use Rattle.ends.specs.Ends.{ends_of}
 use Rattle.cursor.specs.declared.Cursor.{Cursor}
@@ -19,8 +19,8 @@ inserted_after ws e c new =
     let front = ends_of new (cond (is_null e.tail) new e.tail) in
     let beside = ends_of e.head (cond (is_null c.next) new e.tail) in
     cond (is_null c.current)
-    (outcome (link_between ws new.0 0 e.head.0) (edited Done front (null_cursor front)))
-    (outcome (link_between ws new.0 c.current.0 c.next.0) (edited Done beside (cursor_of c.current c.prev new)))
+    (outcome (link_between ws new.0 0 e.head.0) (edited done front (null_cursor front)))
+    (outcome (link_between ws new.0 c.current.0 c.next.0) (edited done beside (cursor_of c.current c.prev new)))
 
 -- On the other side; at null, at the back.
 unfoldable pub inserted_before : List ℕ → Ends → Cursor → Name → Outcome Edited
@@ -28,8 +28,8 @@ inserted_before ws e c new =
     let back = ends_of (cond (is_null e.head) new e.head) new in
     let beside = ends_of (cond (is_null c.prev) new e.head) e.tail in
     cond (is_null c.current)
-    (outcome (link_between ws new.0 e.tail.0 0) (edited Done back (null_cursor back)))
-    (outcome (link_between ws new.0 c.prev.0 c.current.0) (edited Done beside (cursor_of c.current new c.next)))
+    (outcome (link_between ws new.0 e.tail.0 0) (edited done back (null_cursor back)))
+    (outcome (link_between ws new.0 c.prev.0 c.current.0) (edited done beside (cursor_of c.current new c.next)))
 
 unfoldable pub insert_after : List ℕ → Ends → Cursor → Node → Outcome Edited
 insert_after ws e c i =

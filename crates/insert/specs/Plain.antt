@@ -1,7 +1,6 @@
 -- The plain edits that inserts stand for (document 01, 'Edits').
-use Rattle.std.specs.Prelude.{ℕ, Bool, cond, [], ◌∷◌, ◌++◌}
-use Rattle.answers.specs.declared.Answer.TheVariants.{Done}
-use Rattle.answers.specs.Answer.{is_refused}
+use Rattle.std.specs.Prelude.{ℕ, Bool, [], ◌∷◌, ◌++◌, Err}
+use Rattle.answers.specs.Answer.{done, if_refused}
 use Rattle.cursor.specs.Plain.{Place, at, at_null}
 use Rattle.cursor.specs.Does.{Plain, plain, linking, free_test}
 
@@ -16,8 +15,8 @@ place_before i (at_null xs) = at_null (xs ++ i ∷ [])
 
 unfoldable pub plain_insert_after : ℕ → (ℕ → Bool) → ℕ → Place → Plain
 plain_insert_after n linked i z =
-    let t = free_test n linked i in cond (is_refused t) (plain t z linked) (plain Done (place_after i z) (linking i linked))
+    if_refused (free_test n linked i) (λ r. plain (Err r) z linked) (plain done (place_after i z) (linking i linked))
 
 unfoldable pub plain_insert_before : ℕ → (ℕ → Bool) → ℕ → Place → Plain
 plain_insert_before n linked i z =
-    let t = free_test n linked i in cond (is_refused t) (plain t z linked) (plain Done (place_before i z) (linking i linked))
+    if_refused (free_test n linked i) (λ r. plain (Err r) z linked) (plain done (place_before i z) (linking i linked))

@@ -1,12 +1,10 @@
 -- The iterator (document 01, 'Edits').
-use Rattle.std.specs.Prelude.{ℕ, cond, List, eqb, length}
+use Rattle.std.specs.Prelude.{ℕ, cond, List, eqb, length, Ok, Err}
 use Rattle.words.specs.Names.{null, is_null, is_name, pool_fits, decoding}
 use Rattle.links.specs.XorOps.{next_of}
 use Rattle.answers.specs.declared.Refusal.TheVariants.{Size, NoListing}
-use Rattle.answers.specs.declared.Answer.{Answer}
-use Rattle.answers.specs.declared.Answer.TheVariants.{Done, Refused}
 use Rattle.ends.specs.declared.Ends.{Ends}
-use Rattle.answers.specs.Answer.{handing}
+use Rattle.answers.specs.Answer.{Answer, done}
 use Rattle.iter.specs.declared.Iter.{Iter}
 use Rattle.iter.specs.declared.Stepped.{Stepped}
 
@@ -30,17 +28,17 @@ turned_iter it = record { prev_head = it.next_tail; head = it.tail; tail = it.he
 unfoldable pub next : List ℕ → Iter → Stepped
 next ws it =
     let n = length ws in
-    let out = handing (decoding n it.head) in
+    let out = Ok (decoding n it.head) in
     let after = next_of ws it.head.0 it.prev_head.0 in
     cond (pool_fits n)
-    (cond (is_null it.head) (stepped Done it)
+    (cond (is_null it.head) (stepped done it)
     (cond (is_name n it.head.0)
     (cond (eqb it.head.0 it.tail.0) (stepped out over)
     (cond (is_name n after)
     (stepped out (record { prev_head = it.head; head = record { 0 = after }; tail = it.tail; next_tail = it.next_tail }))
-    (stepped (Refused NoListing) it)))
-    (stepped (Refused NoListing) it)))
-    (stepped (Refused Size) it)
+    (stepped (Err NoListing) it)))
+    (stepped (Err NoListing) it)))
+    (stepped (Err Size) it)
 
 -- One node from the back: the same from the other side.
 unfoldable pub next_back : List ℕ → Iter → Stepped

@@ -1,14 +1,13 @@
 -- What iterating stands for: a plain sequence that nodes are taken from at both ends (demand 2). No word is in it.
-use Rattle.std.specs.Prelude.{ℕ, Bool, true, false, List, [], ◌∷◌, reverse}
-use Rattle.answers.specs.declared.Answer.{Answer}
-use Rattle.answers.specs.declared.Answer.TheVariants.{Done, Handed}
+use Rattle.std.specs.Prelude.{ℕ, Bool, true, false, List, [], ◌∷◌, reverse, Some, Ok}
+use Rattle.answers.specs.Answer.{Answer, done}
 use Rattle.iter.specs.declared.Iter.{Iter}
 use Rattle.iter.specs.Iter.{next, next_back}
 
 -- The node taken from the front, nothing if there is none, and what is left.
 abbrev pub first : List ℕ → Answer
-first [] = Done
-first (x ∷ xs) = Handed (record { 0 = x })
+first [] = done
+first (x ∷ xs) = Ok (Some (record { 0 = x }))
 
 abbrev pub rest : List ℕ → List ℕ
 rest [] = []
@@ -33,4 +32,4 @@ steps b (x ∷ xs) = b ∷ steps b xs
 
 abbrev pub handed_all : List ℕ → List Answer
 handed_all [] = []
-handed_all (x ∷ xs) = Handed (record { 0 = x }) ∷ handed_all xs
+handed_all (x ∷ xs) = Ok (Some (record { 0 = x })) ∷ handed_all xs

@@ -2,7 +2,7 @@
 #![tactic(auto)]
 
 ghost use Rattle.std.specs.Prelude.{◌≡◌};
-ghost use Rattle.iter.specs.Iter.{iter_of, over, next_back};
+ghost use Rattle.iter.specs.Iter.{stepped, iter_of, over, next_back};
 
 use answers::{Answer, Refusal};
 use ends::Ends;
@@ -10,7 +10,7 @@ use links::xor_ops::XorLinkedListOps;
 use words::names::Name;
 
 // What is left of a list: its first and last node, and what was stepped over on each side.
-#[derive(Clone, Copy)]
+#[derive(Clone, Copy, PartialEq, Eq)]
 pub struct Iter {
     pub prev_head: Name,
     pub head: Name,
@@ -19,10 +19,19 @@ pub struct Iter {
 }
 
 // What a step hands back.
-#[derive(Clone, Copy)]
+#[derive(Clone, Copy, PartialEq, Eq)]
 pub struct Stepped {
     pub answer: Answer,
     pub iter: Iter,
+}
+
+impl Stepped {
+    // Every one is made here.
+    fn new(answer: Answer, iter: Iter) -> Stepped
+        ensures { result ≡ stepped answer iter }
+    {
+        Stepped { answer, iter }
+    }
 }
 
 impl Iter {
@@ -30,12 +39,10 @@ impl Iter {
     pub fn new(ends: Ends) -> Iter
         ensures { result ≡ iter_of ends }
     {
-        let head = ends.head;
-        let tail = ends.tail;
         Iter {
             prev_head: Name::NULL,
-            head: head,
-            tail: tail,
+            head: ends.head,
+            tail: ends.tail,
             next_tail: Name::NULL,
         }
     }
@@ -44,92 +51,65 @@ impl Iter {
     fn ended() -> Iter
         ensures { result ≡ over }
     {
-        Iter {
-            prev_head: Name::NULL,
-            head: Name::NULL,
-            tail: Name::NULL,
-            next_tail: Name::NULL,
-        }
+        Iter::new(Ends::empty())
     }
 
     // One node from the front.
+    #[tactic(auto, unfolding(crate::specs::Iter::next))]
     pub fn next(self, words: &[u32]) -> Stepped
         ensures { result ≡ Rattle.iter.specs.Iter.next words.now self }
     {
-        let prev_head = self.prev_head;
-        let head = self.head;
-        let tail = self.tail;
-        let next_tail = self.next_tail;
+        let Iter {
+            prev_head,
+            head,
+            tail,
+            next_tail,
+        } = self;
         let n = words.len();
         if !words::names::pool_fits(n) {
-            return Stepped {
-                answer: Answer::Refused(Refusal::Size),
-                iter: self,
-            };
+            return Stepped::new(Err(Refusal::Size), self);
         }
         if head.is_null() {
-            return Stepped {
-                answer: Answer::Done,
-                iter: self,
-            };
+            return Stepped::new(Ok(None), self);
         }
         if !head.in_range(n) {
-            return Stepped {
-                answer: Answer::Refused(Refusal::NoListing),
-                iter: self,
-            };
+            return Stepped::new(Err(Refusal::NoListing), self);
         }
-        let out = Answer::handing(head.decode(n));
-        if head.0 == tail.0 {
-            return Stepped {
-                answer: out,
-                iter: Iter::ended(),
-            };
+        let out = Ok(head.decode(n));
+        if head == tail {
+            return Stepped::new(out, Iter::ended());
         }
         let next = XorLinkedListOps::next(words, head, prev_head);
         if !next.in_range(n) {
-            return Stepped {
-                answer: Answer::Refused(Refusal::NoListing),
-                iter: self,
-            };
+            return Stepped::new(Err(Refusal::NoListing), self);
         }
-        Stepped {
-            answer: out,
-            iter: Iter {
-                prev_head: head,
-                head: next,
-                tail: tail,
-                next_tail: next_tail,
-            },
-        }
+        let rest = Iter {
+            prev_head: head,
+            head: next,
+            tail,
+            next_tail,
+        };
+        Stepped::new(out, rest)
     }
 
     // One node from the back.
+    #[tactic(auto, unfolding(crate::specs::Iter::next_back))]
     pub fn next_back(self, words: &[u32]) -> Stepped
         ensures { result ≡ next_back words.now self }
     {
         let r = self.turned().next(words);
-        let answer = r.answer;
-        let iter = r.iter;
-        Stepped {
-            answer,
-            iter: iter.turned(),
-        }
+        Stepped::new(r.answer, r.iter.turned())
     }
 
     // Seen from the other side.
     pub fn turned(self) -> Iter
         ensures { result ≡ Rattle.iter.specs.Iter.turned_iter self }
     {
-        let prev_head = self.next_tail;
-        let head = self.tail;
-        let tail = self.head;
-        let next_tail = self.prev_head;
         Iter {
-            prev_head: prev_head,
-            head: head,
-            tail: tail,
-            next_tail: next_tail,
+            prev_head: self.next_tail,
+            head: self.tail,
+            tail: self.head,
+            next_tail: self.prev_head,
         }
     }
 }

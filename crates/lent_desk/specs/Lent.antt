@@ -1,8 +1,8 @@
 -- The lent desk (document 01, 'Words' and 'Command lines'): a pool of any length, and a list directory with a cursor for each
 -- list, in slices that the caller lends. One line on it is the desk's step on the lists that are there.
-use Rattle.std.specs.Prelude.{ℕ, List}
+use Rattle.std.specs.Prelude.{ℕ, List, Option}
 use Rattle.walk.specs.Marks.{Marking}
-use Rattle.lines.specs.declared.line.Parsed.{Parsed}
+use Rattle.lines.specs.declared.line.Order.{Order}
 use Rattle.lines.specs.declared.answer.Reply.{Reply}
 use Rattle.desk.specs.Step.{Desk, DeskStepped, step}
 use Rattle.rows.specs.Rows.{rows_of, laid}
@@ -34,5 +34,5 @@ left_by s m =
     let d = m.result.desk in lent_stepped (lent d.words (laid d.lists s.lists) m.marks) m.result.reply
 
 -- One line on the lent desk.
-unfoldable pub lent_step : Lent → Parsed → LentStepped
+unfoldable pub lent_step : Lent → Option Order → LentStepped
 lent_step s p = left_by s (step (desk_of s) s.marks p)

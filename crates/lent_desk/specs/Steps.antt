@@ -1,9 +1,8 @@
 -- The steps that the lent desk's private functions are. The desk itself is in Lent; laws say that the steps come to it.
-use Rattle.std.specs.Prelude.{ℕ, List}
+use Rattle.std.specs.Prelude.{ℕ, List, Option}
 use Rattle.walk.specs.Marks.{Marking, marking}
 use Rattle.audit.specs.Audit.{audit_all}
 use Rattle.lines.specs.declared.line.Order.{Order}
-use Rattle.lines.specs.declared.line.Parsed.{Parsed}
 use Rattle.lines.specs.declared.answer.Reply.{Reply}
 use Rattle.desk.specs.declared.Row.{Row}
 use Rattle.desk.specs.Reply.{reply_to_audit}
@@ -21,5 +20,5 @@ command_step s o =
     left_by s (put_back d o (command s.words s.marks (row_at d o.list) (row_at d o.other) o))
 
 -- A line that was tested for 11.
-unfoldable pub lent_tested : Lent → Parsed → LentStepped
+unfoldable pub lent_tested : Lent → Option Order → LentStepped
 lent_tested s p = left_by s (step_tested (desk_of s) s.marks p)

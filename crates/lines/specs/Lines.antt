@@ -1,8 +1,7 @@
 -- Command lines (document 01, 'Command lines'): ten lower-case hexadecimal digits, for command, list, other list and node.
-use Rattle.std.specs.Prelude.{ℕ, ◌+◌, ◌*◌, ◌/◌, ◌%◌, ◌-◌, Bool, true, ◌&&◌, ◌||◌, not, cond, List, [], ◌∷◌, ltb, leb, eqb, length}
+use Rattle.std.specs.Prelude.{ℕ, ◌+◌, ◌*◌, ◌/◌, ◌%◌, ◌-◌, Bool, true, ◌&&◌, ◌||◌, not, cond, List, [], ◌∷◌, ltb, leb, eqb, length, Option, Some, None}
+use Rattle.std.specs.List.{fold}
 use Rattle.lines.specs.declared.line.Order.{Order}
-use Rattle.lines.specs.declared.line.Parsed.{Parsed}
-use Rattle.lines.specs.declared.line.Parsed.TheVariants.{Right, Malformed}
 use Rattle.lines.specs.declared.line.Line.{Line}
 
 -- The value of a byte that is one of 0-9 or a-f, and 16 for any other.
@@ -39,22 +38,22 @@ unfoldable pub order_of : ℕ → Order
 order_of v =
     record { code = v / 4294967296 % 256; list = v / 16777216 % 256; other = v / 65536 % 256; node = v % 65536 }
 
-abbrev pub if_right : Order → Parsed
-if_right o = cond (right_fields o) (Right o) Malformed
+abbrev pub if_right : Order → Option Order
+if_right o = cond (right_fields o) (Some o) None
 
 -- 11 for an order with an unknown command, or with something in a field that its command does not use, whoever hands it in. A
 -- line that was read stays what it was (a law). A list or a node that is only too great is no 11: 2 or 7 says so.
-unfoldable pub tested : Parsed → Parsed
-tested (Right o) = if_right o
-tested Malformed = Malformed
+unfoldable pub tested : Option Order → Option Order
+tested (Some o) = if_right o
+tested None = None
 
 -- 3: both lists are used, and they are the same.
 abbrev pub same_list : Order → Bool
 same_list o = uses_other o.code && eqb o.list o.other
 
--- What a whole line says, from its bytes without the line feed.
-unfoldable pub line_of : List ℕ → Parsed
-line_of bs = cond (eqb (length bs) 10 && all_digits bs) (if_right (order_of (value_from 0 bs))) Malformed
+-- What a whole line says, None if it is malformed, from its bytes without the line feed.
+unfoldable pub line_of : List ℕ → Option Order
+line_of bs = cond (eqb (length bs) 10 && all_digits bs) (if_right (order_of (value_from 0 bs))) None
 
 -- ---- the same, one byte at a time
 
@@ -69,9 +68,8 @@ fed l b =
     (record { value = 0; count = 11 })
 
 unfoldable pub fed_all : Line → List ℕ → Line
-fed_all l [] = l
-fed_all l (b ∷ bs) = fed_all (fed l b) bs
+fed_all l bs = fold fed l bs
 
 -- What a line that was read so says.
-unfoldable pub parsed : Line → Parsed
-parsed l = cond (eqb l.count 10) (if_right (order_of l.value)) Malformed
+unfoldable pub parsed : Line → Option Order
+parsed l = cond (eqb l.count 10) (if_right (order_of l.value)) None

@@ -1,9 +1,10 @@
 // A command line, read one byte at a time, so that it may come in pieces.
 ghost use Rattle.std.specs.Prelude.{◌≡◌};
-ghost use Rattle.lines.specs.Lines.{digit_of, fresh, fed, fed_all, uses_node, uses_other, uses_list, right_fields, same_list, line_of, parsed};
+ghost use Rattle.lines.specs.Lines.{digit_of, fresh, fed, fed_all, uses_node, uses_other, uses_list, right_fields, same_list, line_of, parsed, tested};
 
-// What a line says: command, list, other list, node.
-#[derive(Clone, Copy)]
+// What a line says: command, list, other list, node. (The command is a number and no enum: an order may be handed in with any, and one
+// that is no command's is 11.)
+#[derive(Clone, Copy, PartialEq, Eq)]
 pub struct Order {
     pub code: u32,
     pub list: u32,
@@ -11,48 +12,45 @@ pub struct Order {
     pub node: u32,
 }
 
-// What comes of a line.
-#[derive(Clone, Copy)]
-pub enum Parsed {
-    Right(Order),
-    Malformed,
-}
-
-// A line so far: the number that its digits make, and how many they are. 11 says that it is malformed, whatever follows.
-#[derive(Clone, Copy)]
+// A line so far: the number that its digits make, and how many they are. 11 says that it is malformed, whatever follows. (A count
+// past ten and no `Option`: it is one comparison a byte.)
+#[derive(Clone, Copy, PartialEq, Eq)]
 pub struct Line {
     pub value: u64,
     pub count: u32,
 }
 
-// The value of a lower-case hexadecimal digit, 16 for any other byte.
+// The value of a lower-case hexadecimal digit, 16 for any other byte. (`char::to_digit` takes upper case too; and 16 is no `Option`, for
+// the reason that a line's count is none.)
+#[tactic(auto, unfolding(crate::specs::Lines::digit_of))]
 pub fn digit(b: u8) -> u64
     ensures { result ≡ digit_of b }
 {
-    if (48 <= b) & (b <= 57) {
-        return (b as u64) - 48;
+    match b {
+        b'0'..=b'9' => (b - b'0') as u64,
+        b'a'..=b'f' => (b - b'a') as u64 + 10,
+        _ => 16,
     }
-    if (97 <= b) & (b <= 102) {
-        return (b as u64) - 87;
-    }
-    16
 }
 
 // The command uses the node field.
+#[tactic(auto, unfolding(crate::specs::Lines::uses_node))]
 fn uses_node(code: u32) -> bool
     ensures { result ≡ uses_node code }
 {
-    (code == 1) | (code == 2) | (code == 4) | (code == 16) | (code == 17)
+    matches!(code, 1 | 2 | 4 | 16 | 17)
 }
 
 // The command uses the other list.
+#[tactic(auto, unfolding(crate::specs::Lines::uses_other))]
 pub fn uses_other(code: u32) -> bool
     ensures { result ≡ uses_other code }
 {
-    ((5 <= code) & (code <= 8)) | (code == 12)
+    matches!(code, 5..=8 | 12)
 }
 
 // The command uses the list.
+#[tactic(auto, unfolding(crate::specs::Lines::uses_list))]
 fn uses_list(code: u32) -> bool
     ensures { result ≡ uses_list code }
 {
@@ -60,11 +58,11 @@ fn uses_list(code: u32) -> bool
 }
 
 // The command is known, and every field that it does not use is zero.
+#[tactic(auto, unfolding(crate::specs::Lines::right_fields))]
 pub fn right_fields(o: Order) -> bool
     ensures { result ≡ right_fields o }
 {
-    (1 <= o.code)
-        & (o.code <= 20)
+    (1..=20).contains(&o.code)
         & (uses_list(o.code) | (o.list == 0))
         & (uses_other(o.code) | (o.other == 0))
         & (uses_node(o.code) | (o.node == 0))
@@ -77,19 +75,12 @@ pub fn same_list(o: Order) -> bool
     uses_other(o.code) & (o.list == o.other)
 }
 
-impl Parsed {
-    // 11, for an order that is handed in; a line that was read stays what it was.
-    pub fn tested(self) -> Parsed
-        ensures { result ≡ Rattle.lines.specs.Lines.tested self }
-    {
-        let Parsed::Right(o) = self else {
-            return Parsed::Malformed;
-        };
-        if !right_fields(o) {
-            return Parsed::Malformed;
-        }
-        Parsed::Right(o)
-    }
+// The test of refusal 11: None where the fields of an order are not right, or where there is none. A line that was read passes it again.
+#[tactic(auto, unfolding(crate::specs::Lines::tested))]
+pub fn tested(line: Option<Order>) -> Option<Order>
+    ensures { result ≡ tested line }
+{
+    line.filter(|o| right_fields(*o))
 }
 
 impl Line {
@@ -101,6 +92,7 @@ impl Line {
     }
 
     // With one byte more, which is no line feed.
+    #[tactic(auto, unfolding(crate::specs::Lines::fed))]
     pub fn feed(self, b: u8) -> Line
         ensures { result ≡ fed self b }
     {
@@ -118,38 +110,33 @@ impl Line {
     }
 
     // With these bytes more, of which none is a line feed.
+    #[tactic(auto, unfolding(crate::specs::Lines::fed_all))]
     pub fn feed_all(self, bytes: &[u8]) -> Line
         ensures { result ≡ fed_all self bytes.now }
     {
-        let mut line = self;
-        let mut i = 0;
-        while i < bytes.len() {
-            line = line.feed(bytes[i]);
-            i += 1;
-        }
-        line
+        bytes.iter().fold(self, |line, b| line.feed(*b))
     }
 
-    // What the line says, once it has ended.
-    pub fn parse(self) -> Parsed
+    // What the line says, once it has ended; None says that it is malformed (11).
+    #[tactic(auto, unfolding(crate::specs::Lines::parsed, crate::specs::Lines::tested, crate::specs::Lines::order_of))]
+    pub fn parse(self) -> Option<Order>
         ensures { result ≡ parsed self }
     {
         if self.count != 10 {
-            return Parsed::Malformed;
+            return None;
         }
         let v = self.value;
-        let o = Order {
+        tested(Some(Order {
             code: (v / 0x1_0000_0000 % 256) as u32,
             list: (v / 0x100_0000 % 256) as u32,
             other: (v / 0x1_0000 % 256) as u32,
             node: (v % 0x1_0000) as u32,
-        };
-        Parsed::Right(o).tested()
+        }))
     }
 }
 
-// What a whole line says, from its bytes without the line feed.
-pub fn read(bytes: &[u8]) -> Parsed
+// What a whole line says (None: malformed), from its bytes without the line feed.
+pub fn read(bytes: &[u8]) -> Option<Order>
     ensures { result ≡ line_of bytes.now }
 {
     Line::new().feed_all(bytes).parse()

@@ -6,6 +6,7 @@ use crate::xor_ops::XorLinkedListOps;
 use words::names::Name;
 
 // Puts a node between two neighbours, either of which may be null.
+#[tactic(auto, unfolding(crate::specs::XorOps::link_between))]
 pub fn link_between(words: &mut [u32], ptr: Name, prev: Name, next: Name)
     ensures { words.new ≡ link_between words.old ptr.0 prev.0 next.0 }
 {
@@ -17,6 +18,7 @@ pub fn link_between(words: &mut [u32], ptr: Name, prev: Name, next: Name)
 }
 
 // Puts the list from start to end between two neighbours, either of which may be null.
+#[tactic(auto, unfolding(crate::specs::XorOps::splice_between))]
 pub fn splice_between(words: &mut [u32], start: Name, end: Name, prev: Name, next: Name)
     ensures { words.new ≡ splice_between words.old start.0 end.0 prev.0 next.0 }
 {

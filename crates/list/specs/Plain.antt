@@ -4,13 +4,13 @@ use Rattle.std.specs.Int.Bits.{bit_xor}
 use Rattle.words.specs.Names.{is_linked}
 use Rattle.words.specs.Pool.{Outcome}
 use Rattle.words.specs.Listing.{Listing}
-use Rattle.answers.specs.declared.Answer.{Answer}
+use Rattle.answers.specs.Answer.{Answer}
 use Rattle.cursor.specs.Plain.{at_null, nodes, next_place, prev_place}
 use Rattle.cursor.specs.Alone.{LeavesAlone}
 use Rattle.cursor.specs.Does.{Plain}
 use Rattle.insert.specs.Plain.{plain_insert_after, plain_insert_before}
 use Rattle.remove.specs.Plain.{plain_remove}
-use Rattle.list.specs.declared.ListEdited.{ListEdited}
+use Rattle.ends.specs.declared.ListEdited.{ListEdited}
 
 -- What a plain edit of a list gives: the answer, the sequence, and which nodes are linked.
 pub record PlainList : Type 0 where

@@ -1,10 +1,9 @@
 -- Moves (document 01, 'Edits'): the source's steps.
-use Rattle.std.specs.Prelude.{ℕ, cond, List}
+use Rattle.std.specs.Prelude.{ℕ, cond, List, Err}
 use Rattle.words.specs.Names.{is_null}
 use Rattle.links.specs.XorOps.{next_of, prev_of}
-use Rattle.answers.specs.declared.Answer.TheVariants.{Done}
 use Rattle.ends.specs.declared.Ends.{Ends}
-use Rattle.answers.specs.Answer.{is_refused}
+use Rattle.answers.specs.Answer.{done, if_refused}
 use Rattle.cursor.specs.declared.Cursor.{Cursor}
 use Rattle.cursor.specs.declared.Edited.{Edited}
 use Rattle.cursor.specs.Cursor.{cursor_of, null_cursor, edited, stand_test}
@@ -23,9 +22,7 @@ moved_prev ws e c =
 
 -- The calls: refused by 1, 4, 5, or moved.
 unfoldable pub move_next : List ℕ → Ends → Cursor → Edited
-move_next ws e c =
-    let t = stand_test ws e c in cond (is_refused t) (edited t e c) (edited Done e (moved_next ws e c))
+move_next ws e c = if_refused (stand_test ws e c) (λ r. edited (Err r) e c) (edited done e (moved_next ws e c))
 
 unfoldable pub move_prev : List ℕ → Ends → Cursor → Edited
-move_prev ws e c =
-    let t = stand_test ws e c in cond (is_refused t) (edited t e c) (edited Done e (moved_prev ws e c))
+move_prev ws e c = if_refused (stand_test ws e c) (λ r. edited (Err r) e c) (edited done e (moved_prev ws e c))

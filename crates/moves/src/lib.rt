@@ -5,12 +5,12 @@
 ghost use Rattle.std.specs.Prelude.{◌≡◌};
 ghost use Rattle.moves.specs.Moves.{moved_next, moved_prev, move_next, move_prev};
 
-use answers::Answer;
 use cursor::{Cursor, Edited};
 use ends::Ends;
 use links::xor_ops::XorLinkedListOps;
 
 // The cursor one node on, with no test.
+#[tactic(auto, unfolding(crate::specs::Moves::moved_next))]
 pub fn next_place(cursor: Cursor, words: &[u32], ends: Ends) -> Cursor
     ensures { result ≡ moved_next words.now ends cursor }
 {
@@ -23,6 +23,7 @@ pub fn next_place(cursor: Cursor, words: &[u32], ends: Ends) -> Cursor
 }
 
 // The cursor one node back, with no test.
+#[tactic(auto, unfolding(crate::specs::Moves::moved_prev))]
 pub fn prev_place(cursor: Cursor, words: &[u32], ends: Ends) -> Cursor
     ensures { result ≡ moved_prev words.now ends cursor }
 {
@@ -34,26 +35,24 @@ pub fn prev_place(cursor: Cursor, words: &[u32], ends: Ends) -> Cursor
     Cursor::new(current, XorLinkedListOps::prev(words, current, next), next)
 }
 
+#[tactic(auto, unfolding(crate::specs::Moves::move_next))]
 pub fn move_next(cursor: Cursor, words: &[u32], ends: Ends) -> Edited
     ensures { result ≡ move_next words.now ends cursor }
 {
-    let t = cursor.stand_test(words, ends);
-    if t.is_refused() {
-        return Edited::new(t, ends, cursor);
+    if let Err(refusal) = cursor.stand_test(words, ends) {
+        return Edited::new(Err(refusal), ends, cursor);
     }
-    let moved = next_place(cursor, words, ends);
-    Edited::new(Answer::Done, ends, moved)
+    Edited::new(Ok(None), ends, next_place(cursor, words, ends))
 }
 
+#[tactic(auto, unfolding(crate::specs::Moves::move_prev))]
 pub fn move_prev(cursor: Cursor, words: &[u32], ends: Ends) -> Edited
     ensures { result ≡ move_prev words.now ends cursor }
 {
-    let t = cursor.stand_test(words, ends);
-    if t.is_refused() {
-        return Edited::new(t, ends, cursor);
+    if let Err(refusal) = cursor.stand_test(words, ends) {
+        return Edited::new(Err(refusal), ends, cursor);
     }
-    let moved = prev_place(cursor, words, ends);
-    Edited::new(Answer::Done, ends, moved)
+    Edited::new(Ok(None), ends, prev_place(cursor, words, ends))
 }
 
 // A cursor at the next node. The cursor is a value, so that its owner still has it: a peek is a move of the copy.

@@ -17,25 +17,16 @@ fn side(before: u32, last: u32, after: u32) -> [u32; 65] {
 }
 
 // What the audit answers, and the marks of nodes 0, 1 and 999999.
-fn shown(out: Stdout, nodes: u32, lists: u32, r: Audited, m: &[u8]) -> io::Result<()> {
-    let a = r.answer;
-    let f = a.node();
-    show::values(
-        out,
-        30,
-        [
-            nodes,
-            lists,
-            a.number(),
-            show::node(f, 0),
-            show::node(f, 1),
-            r.list,
-            r.on_lists,
-            r.stranded,
-            text::byte(m, 0) as u32,
-            text::byte(m, 1) as u32,
-            text::byte(m, 999999) as u32,
-        ],
+fn shown(out: Stdout, nodes: usize, lists: usize, r: Audited, m: &[u8]) -> io::Result<()> {
+    println!(out;
+        "audit: nodes {nodes}; lists {lists}: {} {} {} {} | {} {} {}",
+        show::Answered(r.answer),
+        r.list,
+        r.on_lists,
+        r.stranded,
+        text::mark(m, 0),
+        text::mark(m, 1),
+        text::mark(m, 999999)
     )
 }
 
@@ -45,44 +36,41 @@ fn audit(
     out: Stdout,
     words: &[u32],
     marks: &mut [u8],
-    lists: u32,
+    lists: usize,
     before: u32,
     head: u32,
     tail: u32,
     after: u32,
 ) -> io::Result<()> {
-    let marks = &mut *marks;
-    let k = lists as usize;
     let heads = side(before, head, after);
     let tails = side(before, tail, 0);
-    text::set_marks(marks, 9);
-    let r = audit::audit(words, text::first(&heads, k), text::first(&tails, k), marks);
-    shown(out, (words.len() % 4294967296) as u32, lists, r, marks)
+    marks.fill(9);
+    let r = audit::audit(
+        words,
+        text::first(&heads, lists),
+        text::first(&tails, lists),
+        marks,
+    );
+    shown(out, words.len(), lists, r, marks)
 }
 
 // Right directories; then list 63 has no tail; then it is list 62 again.
 fn audits(out: Stdout, words: &[u32], marks: &mut [u8]) -> io::Result<()> {
-    let marks = &mut *marks;
     audit(out, words, marks, 64, 0, 2000000, 2000000, 0)?;
     audit(out, words, marks, 65, 0, 2000000, 2000000, 0)?;
-    show::values(out, 31, [0; 11])?;
+    println!(out; "list 63 has no tail, nor has 64")?;
     audit(out, words, marks, 64, 0, 2000000, 0, 8)?;
     audit(out, words, marks, 65, 0, 2000000, 0, 8)?;
-    show::values(out, 32, [0; 11])?;
+    println!(out; "list 63 is list 62 again")?;
     audit(out, words, marks, 64, 2000000, 2000000, 2000000, 0)?;
     audit(out, words, marks, 65, 2000000, 2000000, 2000000, 0)
 }
 
 pub(crate) fn run(out: Stdout, words: &mut [u32], marks: &mut [u8]) -> io::Result<()> {
-    let words = &mut *words;
-    text::set_words(words, 1);
+    words.fill(1);
     LinkOps::put(words, Name(2), 0);
     LinkOps::put(words, Name(4), 0);
     LinkOps::put(words, Name(2000000), 0);
-    audits(
-        out,
-        text::first(words, 1000000),
-        text::cut_marks(marks, 1000000),
-    )?;
+    audits(out, text::first(words, 1000000), text::cut(marks, 1000000))?;
     audits(out, words, marks)
 }

@@ -4,9 +4,8 @@ use crate::{show, text};
 use cursor::{Cursor, EditedTwo};
 use ends::Ends;
 use iter::Iter;
-use list::ListEdited;
 use std::io::{self, Stdout};
-use words::names::{Found, Name, Node};
+use words::names::{Name, Node};
 
 // What the calls are given: the list; a cursor at its first node, again after edits, and at the last node but one once the last
 // is off; the first node, the last but one and the last; and an empty list.
@@ -22,111 +21,76 @@ pub(crate) struct Args {
     other: Ends,
 }
 
-// Pushes every node of the pool at the back of a list, which starts empty.
-fn push_all(words: &mut [u32]) -> Ends {
-    let n = words.len();
+// Pushes the nodes below `count` at the back of a list, which starts empty.
+fn push_all(words: &mut [u32], count: u32) -> Ends {
     let mut ends = Ends::empty();
-    for i in 0..n {
-        let r = list::push_back(words, ends, Node((i % 4294967296) as u32));
-        ends = r.ends;
+    for i in 0..count {
+        ends = list::push_back(words, ends, Node(i)).ends;
     }
     ends
 }
 
 // The calls that are lent the words to read only and make a cursor.
-fn cursors(
-    out: Stdout,
-    words: &[u32],
-    ends: Ends,
-    first: Cursor,
-    near: Node,
-    high: Node,
-) -> io::Result<()> {
-    show::edited(out, 2, list::front(words, ends))?;
-    show::edited(out, 3, list::back(words, ends))?;
-    show::edited(out, 4, moves::move_next(first, words, ends))?;
-    show::edited(out, 5, moves::move_prev(first, words, ends))?;
-    show::edited(out, 6, moves::peek_next(first, words, ends))?;
-    show::edited(out, 7, moves::peek_prev(first, words, ends))?;
-    let after = Found::At(near);
+fn cursors(out: Stdout, words: &[u32], a: Args) -> io::Result<()> {
+    let Args {
+        ends,
+        first,
+        near,
+        high,
+        ..
+    } = a;
+    show::edited(out, "front", list::front(words, ends))?;
+    show::edited(out, "back", list::back(words, ends))?;
+    show::edited(out, "move_next", moves::move_next(first, words, ends))?;
+    show::edited(out, "move_prev", moves::move_prev(first, words, ends))?;
+    show::edited(out, "peek_next", moves::peek_next(first, words, ends))?;
+    show::edited(out, "peek_prev", moves::peek_prev(first, words, ends))?;
     show::edited(
         out,
-        8,
-        place::cursor_from_ptr_and_prev(words, ends, high, after),
+        "place by prev",
+        place::cursor_from_ptr_and_prev(words, ends, high, Some(near)),
     )?;
-    let none = Found::Nothing;
     show::edited(
         out,
-        9,
-        place::cursor_from_ptr_and_next(words, ends, high, none),
+        "place by next",
+        place::cursor_from_ptr_and_next(words, ends, high, None),
     )
 }
 
 // Those on the list as a whole, and an iterator's two steps.
 fn lists(out: Stdout, words: &[u32], ends: Ends, other: Ends) -> io::Result<()> {
-    show::list_edited(out, 10, list::reverse(words, ends))?;
-    show::list_edited(out, 11, list::fast_clear(words, ends))?;
-    let taken = list::take(words, ends, other);
-    let t = taken.answer;
-    show::outcome(out, 12, t, taken.ends, Cursor::null(ends), taken.other)?;
-    show::stepped(out, 13, Iter::new(ends).next(words))?;
-    show::stepped(out, 14, Iter::new(ends).next_back(words))
+    show::list_edited(out, "reverse", list::reverse(words, ends))?;
+    show::list_edited(out, "fast_clear", list::fast_clear(words, ends))?;
+    show::taken(out, list::take(words, ends, other))?;
+    show::stepped(out, "next", Iter::new(ends).next(words))?;
+    show::stepped(out, "next_back", Iter::new(ends).next_back(words))
 }
 
 // How many nodes the walk stands on.
 fn walk_it(out: Stdout, words: &[u32], marks: &mut [u8], ends: Ends) -> io::Result<()> {
     let r = walk::walk::walk(words, marks, ends);
-    let a = r.answer;
-    let f = a.node();
-    let v = [
-        a.number(),
-        show::node(f, 0),
-        show::node(f, 1),
-        r.count,
-        0,
-        0,
-        0,
-        0,
-        0,
-        0,
-        0,
-    ];
-    show::values(out, 1, v)
+    println!(out; "walk {} {}", show::Answered(r.answer), r.count)
 }
 
 // Edits one after another, each on what the one before hands back. Accepted, the last node now comes after the first.
-fn edits(
-    out: Stdout,
-    words: &mut [u32],
-    ends: Ends,
-    first: Cursor,
-    low: Node,
-    high: Node,
-) -> io::Result<Ends> {
-    let popped = list::pop_back(words, ends);
-    show::list_edited(out, 15, popped)?;
-    let replaced = remove::replace(first, words, popped.ends, high);
-    show::edited(out, 16, replaced)?;
-    let pushed = list::push_front(words, replaced.ends, low);
-    show::list_edited(out, 17, pushed)?;
+fn edits(out: Stdout, words: &mut [u32], a: Args) -> io::Result<Ends> {
+    let popped = list::pop_back(words, a.ends);
+    show::list_edited(out, "pop_back", popped)?;
+    let replaced = remove::replace(a.first, words, popped.ends, a.high);
+    show::edited(out, "replace", replaced)?;
+    let pushed = list::push_front(words, replaced.ends, a.low);
+    show::list_edited(out, "push_front", pushed)?;
     Ok(pushed.ends)
 }
 
 // The first node is taken off and put back. The cursor is at what was the last, and what is beyond it is moved out.
-fn more_edits(
-    out: Stdout,
-    words: &mut [u32],
-    ends: Ends,
-    again: Cursor,
-    low: Node,
-    other: Ends,
-) -> io::Result<EditedTwo> {
-    let removed = remove::remove(again, words, ends);
-    show::edited(out, 18, removed)?;
-    let inserted = insert::insert_before(removed.cursor, words, removed.ends, low);
-    show::edited(out, 19, inserted)?;
-    let split = split::split_after(inserted.cursor, words, inserted.ends, other);
-    show::edited_two(out, 20, split)?;
+fn more_edits(out: Stdout, words: &mut [u32], ends: Ends, a: Args) -> io::Result<EditedTwo> {
+    let removed = remove::remove(a.again, words, ends);
+    show::edited(out, "remove", removed)?;
+    let inserted = insert::insert_before(removed.cursor, words, removed.ends, a.low);
+    show::edited(out, "insert_before", inserted)?;
+    let split = split::split_after(inserted.cursor, words, inserted.ends, a.other);
+    show::edited_two(out, "split_after", split)?;
     Ok(split)
 }
 
@@ -134,47 +98,48 @@ fn more_edits(
 // put after it.
 fn parts(out: Stdout, words: &mut [u32], r: EditedTwo) -> io::Result<Ends> {
     let joined = splice::splice_before(r.cursor, words, r.ends, r.other);
-    show::edited_two(out, 21, joined)?;
+    show::edited_two(out, "splice_before", joined)?;
     let split = split::split_before(joined.cursor, words, joined.ends, joined.other);
-    show::edited_two(out, 22, split)?;
+    show::edited_two(out, "split_before", split)?;
     let again = splice::splice_after(split.cursor, words, split.ends, split.other);
-    show::edited_two(out, 23, again)?;
+    show::edited_two(out, "splice_after", again)?;
     Ok(again.ends)
 }
 
 // The last node goes from the front to the back.
-fn round(out: Stdout, words: &mut [u32], ends: Ends, last: Cursor, high: Node) -> io::Result<Ends> {
+fn round(out: Stdout, words: &mut [u32], ends: Ends, a: Args) -> io::Result<Ends> {
     let popped = list::pop_front(words, ends);
-    show::list_edited(out, 24, popped)?;
-    let placed = insert::insert_after(last, words, popped.ends, high);
-    show::edited(out, 25, placed)?;
+    show::list_edited(out, "pop_front", popped)?;
+    let placed = insert::insert_after(a.last, words, popped.ends, a.high);
+    show::edited(out, "insert_after", placed)?;
     Ok(placed.ends)
 }
 
 fn clear_it(out: Stdout, words: &mut [u32], marks: &mut [u8], ends: Ends) -> io::Result<()> {
     let r = walk::clear::clear(words, marks, ends);
-    let answer = r.answer;
-    show::list_edited(out, 26, ListEdited::new(answer, r.ends))
+    show::list_edited(out, "clear", r)
 }
 
 fn changes(out: Stdout, words: &mut [u32], a: Args) -> io::Result<Ends> {
-    let pushed = edits(out, words, a.ends, a.first, a.low, a.high)?;
-    let split = more_edits(out, words, pushed, a.again, a.low, a.other)?;
+    let pushed = edits(out, words, a)?;
+    let split = more_edits(out, words, pushed, a)?;
     let joined = parts(out, words, split)?;
-    round(out, words, joined, a.last, a.high)
+    round(out, words, joined, a)
 }
 
 // What is left of words and marks, by their sums.
 fn left(out: Stdout, words: &[u32], marks: &[u8]) -> io::Result<()> {
-    let w = (text::sum(words) % 4294967296) as u32;
-    let m = (text::sum_marks(marks) % 4294967296) as u32;
-    show::values(out, 33, [w, m, 0, 0, 0, 0, 0, 0, 0, 0, 0])
+    println!(out;
+        "left: words {}; marks {}",
+        text::sum(words),
+        text::sum(marks)
+    )
 }
 
 // A list that is cleared has no ends that hold.
 pub(crate) fn calls(out: Stdout, words: &mut [u32], marks: &mut [u8], a: Args) -> io::Result<()> {
     walk_it(out, words, marks, a.ends)?;
-    cursors(out, words, a.ends, a.first, a.near, a.high)?;
+    cursors(out, words, a)?;
     lists(out, words, a.ends, a.other)?;
     let after = changes(out, words, a)?;
     walk_it(out, words, marks, after)?;
@@ -184,14 +149,16 @@ pub(crate) fn calls(out: Stdout, words: &mut [u32], marks: &mut [u8], a: Args) -
 }
 
 // The calls on the first so many nodes and marks.
-fn on(out: Stdout, words: &mut [u32], n: u32, marks: &mut [u8], m: u32, a: Args) -> io::Result<()> {
-    show::values(out, 0, [n, m, 0, 0, 0, 0, 0, 0, 0, 0, 0])?;
-    calls(
-        out,
-        text::cut(words, n as usize),
-        text::cut_marks(marks, m as usize),
-        a,
-    )
+fn on(
+    out: Stdout,
+    words: &mut [u32],
+    n: usize,
+    marks: &mut [u8],
+    m: usize,
+    a: Args,
+) -> io::Result<()> {
+    println!(out; "# pool of {n}; marks {m}")?;
+    calls(out, text::cut(words, n), text::cut(marks, m), a)
 }
 
 // Arguments that are right for the list of all nodes.
@@ -239,9 +206,7 @@ fn wrong() -> Args {
 
 // The greater pool comes first, as nothing changes there. The words are all 1 before, and again after.
 pub(crate) fn run(out: Stdout, words: &mut [u32], marks: &mut [u8]) -> io::Result<()> {
-    let words = &mut *words;
-    let marks = &mut *marks;
-    let ends = push_all(text::cut(words, 1000000));
+    let ends = push_all(text::cut(words, 1000000), 1000000);
     on(out, words, 1000001, marks, 0, wrong())?;
     on(out, words, 1000001, marks, 1000001, right(ends))?;
     on(out, words, 1000000, marks, 1000000, right(ends))

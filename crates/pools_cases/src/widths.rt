@@ -1,6 +1,6 @@
 // Records of the greatest pool, and of one more; of the greatest width, and of one more. Nodes 999999 and 4095 are each alone on
 // a list.
-use crate::{show, text};
+use crate::text;
 use cursor::Cursor;
 use ends::Ends;
 use std::io::{self, Stdout};
@@ -14,26 +14,12 @@ fn stamp(records: &mut [u8; 1052672]) {
     records[1048575] = 3;
 }
 
-// How long the part is, and its first and last byte if there is one, each given twice.
-fn shown(out: Stdout, nodes: u32, records: u32, width: u32, t: u32, p: &[u8]) -> io::Result<()> {
-    let n = p.len();
-    let none = (n == 0) as u32;
-    let first = text::byte(p, 0) as u32;
-    let last = text::byte(p, std::num::wrapping_sub_usize(n, 1)) as u32;
-    let v = [
-        nodes,
-        records,
-        width,
-        t,
-        (n % 4294967296) as u32,
-        first,
-        first ^ none,
-        last,
-        last ^ none,
-        0,
-        0,
-    ];
-    show::values(out, 29, v)
+// What a test answers, how long the part is, and its first and last byte if there is one.
+fn shown(out: Stdout, test: u32, part: &[u8]) -> io::Result<()> {
+    match (part.first(), part.last()) {
+        (Some(first), Some(last)) => println!(out; "{test} {} {first} {last}", part.len()),
+        _ => println!(out; "{test} 0"),
+    }
 }
 
 // A read at the lone node of a list, with this many nodes and bytes of records.
@@ -41,19 +27,26 @@ fn read(
     out: Stdout,
     all: &[u32],
     space: &[u8; 1052672],
-    nodes: u32,
-    len: u32,
-    width: u32,
+    nodes: usize,
+    len: usize,
+    width: usize,
     head: u32,
     tail: u32,
 ) -> io::Result<()> {
-    let words = text::first(all, nodes as usize);
-    let records = text::part(space, 0, len as usize);
+    let words = text::first(all, nodes);
+    let records = text::first(space, len);
     let ends = Ends::new(Name(head), Name(tail));
     let cursor = Cursor::new(Name(head), Name(0), Name(0));
-    let t = records::read_test(cursor, words, ends, records, width as usize);
-    let p = records::read(cursor, words, ends, records, width as usize);
-    shown(out, nodes, len, width, t.number(), p)
+    let test = match records::read_test(cursor, words, ends, records, width) {
+        Ok(()) => 0,
+        Err(refusal) => refusal.number(),
+    };
+    print!(out; "read: nodes {nodes}; records {len}; width {width}: ")?;
+    shown(
+        out,
+        test,
+        records::read(cursor, words, ends, records, width),
+    )
 }
 
 // The reads. In the second all but the sizes is wrong too.
@@ -68,8 +61,7 @@ fn reads(out: Stdout, words: &[u32], space: &[u8; 1052672]) -> io::Result<()> {
 }
 
 pub(crate) fn run(out: Stdout, words: &mut [u32]) -> io::Result<()> {
-    let words = &mut *words;
-    text::set_words(words, 1);
+    words.fill(1);
     LinkOps::put(words, Name(2000000), 0);
     LinkOps::put(words, Name(8192), 0);
     let mut space = [7u8; 1052672];

@@ -7,26 +7,27 @@ use Prim.Native.Nat.{ℕ}
 use lib.Dec.{eqb}
 use lib.ListN.{length}
 use borrow.Author.Tests.{eqb-true, eqb-false, eq-eqb, ne_eqb, not-true}
+use Rattle.std.specs.Prelude.{Ok, Err, is_err}
 use Rattle.words.specs.declared.names.Node.{Node}
 use Rattle.words.specs.Names.{pool_fits}
 use Rattle.words.specs.Pool.{Outcome, outcome}
 use Rattle.words.proofs.Laws.Cases.{both}
 use Rattle.answers.specs.declared.Refusal.{Refusal}
 use Rattle.answers.specs.declared.Refusal.TheVariants.{Size, SameList, Malformed}
-use Rattle.answers.specs.declared.Answer.{Answer}
-use Rattle.answers.specs.declared.Answer.TheVariants.{Refused}
-use Rattle.answers.specs.Answer.{number}
+use Rattle.answers.specs.Answer.{number, Answer, done, Tested, if_refused}
 use Rattle.answers.proofs.Laws.Ladder.{not-both}
 use Rattle.ends.specs.declared.Ends.{Ends}
 use Rattle.ends.specs.Ends.{empty_ends}
+use Rattle.ends.specs.Tests.{ends_test}
 use Rattle.walk.specs.Marks.{Marking, marking}
 use Rattle.table.specs.Calls.{move-next, move-prev, remove, insert-after, insert-before, replace}
 use Rattle.table.specs.Calls.{splice-after, splice-before, split-after, split-before}
 use Rattle.table.specs.Calls.{push-front, push-back, pop-front, pop-back, fast-clear, reversal}
 use Rattle.table.specs.Calls.{AtCursor, AtBoth, OnList, Call, at-cursor, at-both, on-list, take, clear}
 use Rattle.table.specs.Calls.{Back, cursor-back, both-back, list_back, lists_back, iter-back, nothing-back, Left, calls}
-use Rattle.table.specs.Table.{FirstFailing}
+use Rattle.table.specs.Table.{FirstFailing, pool, ends}
 use Rattle.table.specs.Refused.{follows_chain, marks_after, refused}
+use Rattle.table.proofs.Laws.Ladder.{made}
 use Rattle.table.proofs.Laws.Tests.{ends-first}
 use Rattle.table.proofs.Laws.All.{all-calls}
 use Rattle.lines.specs.declared.line.Order.{Order}
@@ -42,7 +43,7 @@ use Rattle.promises.specs.Demand1.{AtWork, AtClear}
 
 record Good (ws ms : List ℕ) (r q : Row) (w : Outcome Worked) (c : Command) : Type 0 where
   tests : FirstFailing (command_row ws ms c) w.result.answer
-  unchanged : (x : Refusal) → w.result.answer ≡ Refused x → w ≡ outcome ws (worked (Refused x) r q)
+  unchanged : (x : Refusal) → w.result.answer ≡ Err x → w ≡ outcome ws (worked (Err x) r q)
   quiet : command_follows c ≡ false
 
 -- what a call hands back, as the lists of a desk
@@ -85,7 +86,7 @@ take_left r q l =
 
 -- a call, as the outcome of its command
 by_call : (ws ms : List ℕ) (r q : Row) (c : Call) (f : Left → Outcome Worked) → ((l : Left) → (f l).result.answer ≡ l.answer)
-    → ((x : Refusal) → f (refused ws ms c x) ≡ outcome ws (worked (Refused x) r q)) → follows_chain c ≡ false
+    → ((x : Refusal) → f (refused ws ms c x) ≡ outcome ws (worked (Err x) r q)) → follows_chain c ≡ false
     → Good ws ms r q (f (calls ws ms c)) (call c)
 by_call ws ms r q c f a g k =
     let t = all-calls ws ms c in
@@ -125,12 +126,19 @@ module _ (ws ms : List ℕ) (r q : Row) (i : Node) where
   unfolding to_null
   nulls =
       record {
-        tests = ends-first ws r.ends;
-        unchanged = λ x h. ap (λ (a : Answer). outcome ws (worked a (nulled a r r.ends) q)) h;
+        tests =
+            made {A = Worked} (λ w. w.answer) (pool ws ∷ ends ws r.ends ∷ []) (ends_test ws r.ends) (λ x. worked (Err x) r q)
+            (worked done (nulled done r r.ends) q) (λ x. refl) refl (ends-first ws r.ends);
+        unchanged = go (ends_test ws r.ends);
         quiet = refl;
       }
+    where
+      go : (t : Tested) (x : Refusal) → (if_refused t (λ y. worked (Err y) r q) (worked done (nulled done r r.ends) q)).answer ≡ Err x
+          → outcome ws (if_refused t (λ y. worked (Err y) r q) (worked done (nulled done r r.ends) q)) ≡ outcome ws (worked (Err x) r q)
+      go (Err y) x h = ap (λ (a : Answer). outcome ws (worked a r q)) h
+      go (Ok u) x h = absurd (not-both (sym (ap is_err h)))
 
-  none : Good ws ms r q (outcome ws (worked (Refused Malformed) r q)) unknown
+  none : Good ws ms r q (outcome ws (worked (Err Malformed) r q)) unknown
   none = record { tests = inr (λ x. x, refl); unchanged = λ x h. ap (λ (a : Answer). outcome ws (worked a r q)) h; quiet = refl }
 
   by-code : (code : ℕ) → eqb code 13 ≡ false → Good ws ms r q (by_code code ws r q i) (command_on code r q i)
@@ -176,17 +184,17 @@ module _ (ws ms : List ℕ) (r q : Row) (o : Order) (h : eqb o.code 13 ≡ false
     where
       go : (b : Bool) → same_list o ≡ b
           → FirstFailing (different o ∷ command_row ws ms it)
-          (cond b (outcome ws (worked (Refused SameList) r q)) (by_code o.code ws r q (record { 0 = o.node }))).result.answer
+          (cond b (outcome ws (worked (Err SameList) r q)) (by_code o.code ws r q (record { 0 = o.node }))).result.answer
       go true s = inr (same-fails o s, refl)
       go false s = inl (differ o s, (by-code ws ms r q (record { 0 = o.node }) o.code h).tests)
 
-  rows-unchanged : (x : Refusal) → (on_rows ws r q o).result.answer ≡ Refused x → on_rows ws r q o ≡ outcome ws (worked (Refused x) r q)
+  rows-unchanged : (x : Refusal) → (on_rows ws r q o).result.answer ≡ Err x → on_rows ws r q o ≡ outcome ws (worked (Err x) r q)
   unfolding on_rows
   rows-unchanged = go (same_list o)
     where
       go : (b : Bool) (x : Refusal)
-          → (cond b (outcome ws (worked (Refused SameList) r q)) (by_code o.code ws r q (record { 0 = o.node }))).result.answer ≡ Refused x
-          → cond b (outcome ws (worked (Refused SameList) r q)) (by_code o.code ws r q (record { 0 = o.node })) ≡ outcome ws (worked (Refused x) r q)
+          → (cond b (outcome ws (worked (Err SameList) r q)) (by_code o.code ws r q (record { 0 = o.node }))).result.answer ≡ Err x
+          → cond b (outcome ws (worked (Err SameList) r q)) (by_code o.code ws r q (record { 0 = o.node })) ≡ outcome ws (worked (Err x) r q)
       go true x e = ap (λ (a : Answer). outcome ws (worked a r q)) e
       go false x e = (by-code ws ms r q (record { 0 = o.node }) o.code h).unchanged x e
 
@@ -210,16 +218,16 @@ module _ (ws : List ℕ) (r q : Row) (o : Order) where
   unfolding is_work
   is-work h = rw (h.0, ne_eqb o.code 13 h.1, ne_eqb o.code 20 h.2)
 
-  abbrev done : Bool → Bool → Outcome Worked
-  done a b = cond a (cond b (on_rows ws r q o) (outcome ws (worked (Refused Size) r q))) (outcome ws (worked (Refused Malformed) r q))
+  abbrev worked-by : Bool → Bool → Outcome Worked
+  worked-by a b = cond a (cond b (on_rows ws r q o) (outcome ws (worked (Err Size) r q))) (outcome ws (worked (Err Malformed) r q))
 
-  work-first : (a : Bool) → is_work o ≡ a → (b : Bool) → pool_fits (length ws) ≡ b → FirstFailing (work_row ws r q o) (done a b).result.answer
+  work-first : (a : Bool) → is_work o ≡ a → (b : Bool) → pool_fits (length ws) ≡ b → FirstFailing (work_row ws r q o) (worked-by a b).result.answer
   work-first false p b f = inr (λ k. not-both (sym (is-work k) ∙ p), refl)
   work-first true p false f = inl (fields p, inr (λ k. not-both (sym k ∙ f), refl))
   work-first true p true f = inl (fields p, inl (f, rows-first ws [] r q o (ne_eqb o.code 13 (fields p).1)))
 
-  work-unchanged : (a : Bool) → is_work o ≡ a → (b : Bool) (x : Refusal) → (done a b).result.answer ≡ Refused x
-      → done a b ≡ outcome ws (worked (Refused x) r q)
+  work-unchanged : (a : Bool) → is_work o ≡ a → (b : Bool) (x : Refusal) → (worked-by a b).result.answer ≡ Err x
+      → worked-by a b ≡ outcome ws (worked (Err x) r q)
   work-unchanged false p b x e = ap (λ (t : Answer). outcome ws (worked t r q)) e
   work-unchanged true p false x e = ap (λ (t : Answer). outcome ws (worked t r q)) e
   work-unchanged true p true x e = rows-unchanged ws [] r q o (ne_eqb o.code 13 (fields p).1) x e
@@ -236,8 +244,8 @@ module _ (ws : List ℕ) (r q : Row) (o : Order) where
 
 pub record Kept (ws ms : List ℕ) (r q : Row) (o : Order) (w : Outcome (Marking Worked)) (c : Command) : Type 0 where
   pub tests : FirstFailing (different o ∷ command_row ws ms c) w.result.result.answer
-  pub unchanged : (x : Refusal) → w.result.result.answer ≡ Refused x
-      → w ≡ outcome ws (marking (marks_after (command_follows c) (number x) ms) (worked (Refused x) r q))
+  pub unchanged : (x : Refusal) → w.result.result.answer ≡ Err x
+      → w ≡ outcome ws (marking (marks_after (command_follows c) (number x) ms) (worked (Err x) r q))
 
 module _ (ws ms : List ℕ) (r q : Row) where
   abbrev clear_left : Left → Outcome (Marking Worked)
@@ -265,7 +273,7 @@ module _ (ws ms : List ℕ) (r q : Row) (o : Order) where
         tests = rows-first ws ms r q o h;
         unchanged = λ x e.
             ap (λ (w : Outcome Worked). outcome w.words (marking ms w.result)) (rows-unchanged ws ms r q o h x e)
-            ∙ ap (λ (b : Bool). outcome ws (marking (marks_after b (number x) ms) (worked (Refused x) r q))) (sym (rows-quiet ws ms r q o h));
+            ∙ ap (λ (b : Bool). outcome ws (marking (marks_after b (number x) ms) (worked (Err x) r q))) (sym (rows-quiet ws ms r q o h));
       }
 
   pub command-kept : Kept ws ms r q o (command ws ms r q o) (command_on o.code r q (record { 0 = o.node }))

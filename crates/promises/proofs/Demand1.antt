@@ -8,10 +8,9 @@ use native.Mathlib.Omega.{arith}
 use lib.Dec.{leb}
 use lib.ListN.{length}
 use borrow.Author.Tests.{leb-true, le-leb}
+use Rattle.std.specs.Prelude.{Option, Ok, Err, is_err}
 use Rattle.answers.specs.declared.Refusal.TheVariants.{NoRoom}
-use Rattle.answers.specs.declared.Answer.{Answer}
-use Rattle.answers.specs.declared.Answer.TheVariants.{Done}
-use Rattle.answers.specs.Answer.{need, answer_number}
+use Rattle.answers.specs.Answer.{Answer, Tested, passed, answer_number, if_refused, need}
 use Rattle.answers.proofs.Laws.Ladder.{not-both}
 use Rattle.ends.specs.declared.Ends.{Ends}
 use Rattle.walk.specs.Calls.{walk_all}
@@ -22,7 +21,7 @@ use Rattle.table.specs.Refused.{follows_chain, marks_after, Keeps}
 use Rattle.table.proofs.Laws.Ladder.{rung}
 use Rattle.table.proofs.Laws.All.{all-calls}
 use Rattle.table.proofs.Laws.Lowest.{audit-names}
-use Rattle.lines.specs.declared.line.Parsed.{Parsed}
+use Rattle.lines.specs.declared.line.Order.{Order}
 use Rattle.lines.specs.Inputs.{lines_of}
 use Rattle.desk.specs.Step.{Desk, step}
 use Rattle.rows.specs.Rows.{laid}
@@ -36,7 +35,7 @@ use Rattle.promises.proofs.Commands.{at-work, at_clear}
 use Rattle.promises.proofs.Lines.{numbered, refusal, kept-marks, on-desk}
 
 -- the lists go back to the places that they came from
-on-lent : (s : Lent) (p : Parsed) → OnLent s p
+on-lent : (s : Lent) (p : Option Order) → OnLent s p
 unfolding lent_step left_by desk_of
 on-lent s p =
     let k = on-desk (desk_of s) s.marks p in
@@ -50,9 +49,13 @@ on-lent s p =
       none = k.none;
     }
 
-on-batch : (d : Desk) (p : Parsed) → OnBatch d p
+on-batch : (d : Desk) (p : Option Order) → OnBatch d p
 unfolding batch_step
 on-batch d p = let k = on-desk d no_marks p in record { tests = k.tests; same = k.same; none = k.none }
+
+refused-entry : {A : Type 0} (t : Tested) (x y : A) → is_err t ≡ true → if_refused t (λ r. x) y ≡ x
+refused-entry (Err r) x y h = refl
+refused-entry (Ok u) x y h = absurd (not-both (sym h))
 
 at_entry : (cs out : List ℕ) → AtEntry cs out
 unfolding entry_test entry_of
@@ -60,11 +63,11 @@ at_entry cs out =
     let room = 11 * length (lines_of cs) in
     record {
       tests =
-          rung (leb (length cs) 65536) NoRoom (length cs ≤ 65536) (need (leb room (length out)) NoRoom Done) (test NoRoom (room ≤ length out) ∷ [])
+          rung (leb (length cs) 65536) NoRoom (length cs ≤ 65536) (need (leb room (length out)) NoRoom passed) (test NoRoom (room ≤ length out) ∷ [])
           (λ h. leb-true (length cs) 65536 h) (λ h. le-leb (length cs) 65536 h)
-          (λ p. rung (leb room (length out)) NoRoom (room ≤ length out) Done [] (λ h. leb-true room (length out) h) (λ h. le-leb room (length out) h)
+          (λ p. rung (leb room (length out)) NoRoom (room ≤ length out) passed [] (λ h. leb-true room (length out) h) (λ h. le-leb room (length out) h)
           (λ q. refl));
-      unchanged = λ h. rw h;
+      unchanged = refused-entry (entry_test cs out) _ _;
     }
 
 module _ (ws ms ns : List ℕ) (c : Call) (a : Answer) (after bs : List ℕ) (answers : (calls ws ms c).answer ≡ a) (leaves : (calls ws ms c).marks ≡ after) where

@@ -1,5 +1,5 @@
 -- Demand 3 is kept. Assumes nothing.
-use mathlib.Core.Path.{◌≡◌, refl, ◌∙◌}
+use mathlib.Core.Path.{◌≡◌, refl}
 use mathlib.Core.Logic.{⊎_elim}
 use mathlib.Core.Bool.{false}
 use mathlib.Core.List.{map}
@@ -8,10 +8,11 @@ use native.Mathlib.Omega.{arith}
 use lib.Dec.{ltb}
 use lib.ListN.{get_or}
 use borrow.Author.Tests.{lt-ltb, le-ltb}
+use Rattle.std.specs.Prelude.{Option}
 use Rattle.words.specs.Names.{is_linked}
 use Rattle.words.proofs.Laws.Cases.{below_or_not}
 use Rattle.links.proofs.Laws.XorListing.{xor-listing-reverse}
-use Rattle.lines.specs.declared.line.Parsed.{Parsed}
+use Rattle.lines.specs.declared.line.Order.{Order}
 use Rattle.lines.specs.Lines.{line_of}
 use Rattle.desk.specs.Step.{Desk, DeskStepped, fresh_desk}
 use Rattle.batch_desk.specs.Step.{batch_step}
@@ -43,7 +44,7 @@ somewhere n d h g x r =
         (below_or_not 0 q))
         (below_or_not 0 p)
 
-promised : (n : ℕ) (d : Desk) (p : Parsed) (s : DeskStepped) (t : PlainStepped) → never_answered t.reply.number ≡ false → Follows n d p s t → AfterLine n d p s t
+promised : (n : ℕ) (d : Desk) (p : Option Order) (s : DeskStepped) (t : PlainStepped) → never_answered t.reply.number ≡ false → Follows n d p s t → AfterLine n d p s t
 promised n d p s t own f =
     let g = f.agrees in
     record {

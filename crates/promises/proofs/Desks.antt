@@ -7,10 +7,11 @@ use lib.Dec.{eqb}
 use Prim.Native.Nat.{ℕ, zero, suc, ◌*◌, ◌<◌}
 use native.Mathlib.Omega.{arith}
 use lib.ListN.{replicate, length, length-replicate}
+use Rattle.std.specs.Prelude.{Option}
 use Rattle.lines.specs.Lines.{line_of, fresh, fed, fed_all, parsed}
 use Rattle.lines.specs.Inputs.{lines_from, lines_of}
 use Rattle.lines.proofs.Laws.Lines.{fed-says}
-use Rattle.lines.specs.declared.line.Parsed.{Parsed}
+use Rattle.lines.specs.declared.line.Order.{Order}
 use Rattle.desk.specs.declared.Row.{Row}
 use Rattle.words.specs.Names.{unlinked_marker}
 use Rattle.rows.specs.Rows.{rows_of}
@@ -32,7 +33,7 @@ same-desk : (s : Lent) (ms : List ℕ) → desk_of (lent_with s ms) ≡ desk_of 
 unfolding desk_of
 same-desk s ms = refl
 
-reply-kept : (s : Lent) (p : Parsed) → (lent_step s p).reply ≡ (step (desk_of s) s.marks p).result.reply
+reply-kept : (s : Lent) (p : Option Order) → (lent_step s p).reply ≡ (step (desk_of s) s.marks p).result.reply
 unfolding lent_step left_by
 reply-kept s p = refl
 
@@ -101,7 +102,7 @@ unfolding finished finish_of fed_all ended batch_after
 last_line [] d out w = rw lines_none
 last_line (b ∷ bs) d out w =
     rw (lines-last b bs, ne_eqb (fed_all (fed fresh b) bs).count 0 (all-counts bs (fed fresh b) (fed-counts fresh b)))
-    (ap (λ (p : Parsed). (batch_step d.desk p).desk) (fed-says (b ∷ bs)))
+    (ap (λ (p : Option Order). (batch_step d.desk p).desk) (fed-says (b ∷ bs)))
 
 rest-run : (bs line : List ℕ) (d : DeskStepped) (out : List ℕ) (w : ℕ)
     → (finished (run_from (running out d (fed_all fresh line) w) bs)).kept.desk ≡ batch_after d.desk (lines_from line bs)

@@ -9,25 +9,23 @@ use lib.Dec.{eqb, ltb, leb}
 use lib.ListN.{length, set}
 use lib.Seq.{set-get_or}
 use borrow.Author.Tests.{eqb-true, eqb-false, ltb-true, ltb-false, leb-true, le-leb}
+use Rattle.std.specs.Prelude.{Err, Ok, Some, is_err, None, Option}
+use Rattle.words.specs.declared.names.Node.{Node}
 use Rattle.words.specs.Names.{directory_fits}
 use Rattle.words.specs.Pool.{Outcome}
 use Rattle.words.proofs.Laws.Cases.{both}
 use Rattle.answers.specs.declared.Refusal.{Refusal}
 use Rattle.answers.specs.declared.Refusal.TheVariants.{Size, NoSuchList}
-use Rattle.answers.specs.declared.Answer.{Answer}
-use Rattle.answers.specs.declared.Answer.TheVariants.{Done, Handed, Refused}
-use Rattle.answers.specs.Answer.{number, answer_number, is_refused}
+use Rattle.answers.specs.Answer.{number, answer_number, Answer}
 use Rattle.answers.proofs.Laws.Ladder.{not-both}
 use Rattle.walk.specs.Marks.{Marking}
 use Rattle.audit.specs.declared.Audited.{Audited}
 use Rattle.audit.specs.Audit.{audit_all}
 use Rattle.table.specs.Calls.{audit, Left}
-use Rattle.table.specs.Table.{Test, test, FirstFailing, row}
+use Rattle.table.specs.Table.{Test, FirstFailing, row}
 use Rattle.table.specs.Refused.{marks_after}
 use Rattle.table.proofs.Laws.All.{all-calls}
 use Rattle.lines.specs.declared.line.Order.{Order}
-use Rattle.lines.specs.declared.line.Parsed.{Parsed}
-use Rattle.lines.specs.declared.line.Parsed.TheVariants.{Right, Malformed as Wrong}
 use Rattle.lines.specs.Answers.{reply}
 use Rattle.lines.specs.Lines.{uses_list, uses_other, uses_node, right_fields, tested}
 use Rattle.desk.specs.declared.Row.{Row}
@@ -41,20 +39,18 @@ use Rattle.promises.proofs.Commands.{Kept, command-kept}
 
 -- ---- numbers
 
-none-refused : (a : Answer) → is_refused a ≡ false → answer_number a ≡ 0
-none-refused Done h = refl
-none-refused (Handed i) h = refl
-none-refused (Refused r) h = absurd (not-both h)
+none-refused : (a : Answer) → is_err a ≡ false → answer_number a ≡ 0
+none-refused (Ok i) h = refl
+none-refused (Err r) h = absurd (not-both h)
 
 pub numbered : (ts : List Test) (a : Answer) → FirstFailing ts a → FirstNumber ts (answer_number a)
 numbered [] a f = none-refused a f
 numbered (t ∷ ts) a (inl w) = inl (w.0, numbered ts a w.1)
 numbered (t ∷ ts) a (inr w) = inr (w.0, ap answer_number w.1)
 
-pub refusal : (a : Answer) → answer_number a ≢ 0 → (x : Refusal) × (a ≡ Refused x)
-refusal Done h = absurd (h refl)
-refusal (Handed i) h = absurd (h refl)
-refusal (Refused r) h = (r, refl)
+pub refusal : (a : Answer) → answer_number a ≢ 0 → (x : Refusal) × (a ≡ Err x)
+refusal (Ok i) h = absurd (h refl)
+refusal (Err r) h = (r, refl)
 
 pub kept-marks : (b : Bool) (n : ℕ) (ms : List ℕ) → eqb n 10 ≡ false → ms ≡ marks_after b n ms
 kept-marks true n ms h = rw h
@@ -80,13 +76,13 @@ module _ (d : Desk) (ms : List ℕ) (o : Order) where
       record { tests = f; same = λ z. refl; marks = λ z. kept-marks (command_follows c) (number x) ms h; none = λ z. refl }
 
   -- 1
-  sizes-fail : (ts : List Test) → desk_fits d ms ≡ false → FirstFailing (sizes_then d ms ts) (Refused Size)
+  sizes-fail : (ts : List Test) → desk_fits d ms ≡ false → FirstFailing {A = Option Node} (sizes_then d ms ts) (Err Size)
   unfolding desk_fits
   sizes-fail ts =
       go (leb (length d.words) desk_limit) refl (eqb (length ms) (length d.words)) refl (directory_fits (length d.lists)) refl
     where
       go : (a : Bool) → leb (length d.words) desk_limit ≡ a → (b : Bool) → eqb (length ms) (length d.words) ≡ b
-          → (c : Bool) → directory_fits (length d.lists) ≡ c → a && b && c ≡ false → FirstFailing (sizes_then d ms ts) (Refused Size)
+          → (c : Bool) → directory_fits (length d.lists) ≡ c → a && b && c ≡ false → FirstFailing {A = Option Node} (sizes_then d ms ts) (Err Size)
       go false p b q c r h = inr (λ k. not-both (sym (le-leb (length d.words) desk_limit k) ∙ p), refl)
       go true p false q c r h = inl (leb-true (length d.words) desk_limit p, inr (λ k. eqb-false (length ms) (length d.words) q k, refl))
       go true p true q false r h =
@@ -108,12 +104,11 @@ module _ (d : Desk) (ms : List ℕ) (o : Order) where
   unfolding reply_to_audit
   audit-number a = go a.answer
     where
-      go : (x : Answer) → (cond (is_refused x) (reply (answer_number x) no_node no_node) (reply 0 a.on_lists a.stranded)).number ≡ answer_number x
-      go Done = refl
-      go (Handed i) = refl
-      go (Refused r) = refl
+      go : (x : Answer) → (cond (is_err x) (reply (answer_number x) no_node no_node) (reply 0 a.on_lists a.stranded)).number ≡ answer_number x
+      go (Ok i) = refl
+      go (Err r) = refl
 
-  audit-none : (a : Audited) (x : Refusal) → a.answer ≡ Refused x → (reply_to_audit a).second ≡ no_node
+  audit-none : (a : Audited) (x : Refusal) → a.answer ≡ Err x → (reply_to_audit a).second ≡ no_node
   unfolding reply_to_audit
   audit-none a x h = rw h
 
@@ -124,7 +119,7 @@ module _ (d : Desk) (ms : List ℕ) (o : Order) where
       let a = audit_all d.words es ms in
       let t = all-calls d.words ms (audit es) in
       let n = audit-number a.result in
-      let by : (reply_to_audit a.result).number ≢ 0 → (x : Refusal) × (a.result.answer ≡ Refused x) =
+      let by : (reply_to_audit a.result).number ≢ 0 → (x : Refusal) × (a.result.answer ≡ Err x) =
       λ z. refusal a.result.answer (λ k. z (n ∙ k)) in
       let first = numbered (row d.words ms (audit es)) a.result.answer t.tests in
       record {
@@ -160,7 +155,7 @@ module _ (d : Desk) (ms : List ℕ) (o : Order) where
       eqb-true o.other 0 (rw u at p)
 
   lists-fail : (ts : List Test) → right_fields o ≡ true → eqb o.code 20 ≡ false → lists_there d o ≡ false
-      → FirstFailing (list_there d o ∷ other_there d o ∷ ts) (Refused NoSuchList)
+      → FirstFailing {A = Option Node} (list_there d o ∷ other_there d o ∷ ts) (Err NoSuchList)
   unfolding lists_there uses_list
   lists-fail ts rf c = go (ltb o.list (length d.lists)) refl (ltb o.other (length d.lists)) refl
     where
@@ -171,7 +166,7 @@ module _ (d : Desk) (ms : List ℕ) (o : Order) where
       past p q false u k = let z = unused rf u in omega arith
 
       go : (a : Bool) → ltb o.list (length d.lists) ≡ a → (b : Bool) → ltb o.other (length d.lists) ≡ b → a && b ≡ false
-          → FirstFailing (list_there d o ∷ other_there d o ∷ ts) (Refused NoSuchList)
+          → FirstFailing {A = Option Node} (list_there d o ∷ other_there d o ∷ ts) (Err NoSuchList)
       go false p b q h = inr (λ k. let z = k (ap not c) in let y = ltb-false o.list (length d.lists) p in omega arith, refl)
       go true p false q h =
           inl (
@@ -229,7 +224,7 @@ module _ (d : Desk) (ms : List ℕ) (o : Order) where
 
   -- ---- all of it
 
-  fields_read : right_fields o ≡ true → Read d ms o (command_of d o) (step_tested d ms (Right o))
+  fields_read : right_fields o ≡ true → Read d ms o (command_of d o) (step_tested d ms (Some o))
   fields_read rf = go (desk_fits d ms) refl (eqb o.code 20) refl (lists_there d o) refl
     where
       done : Marking DeskStepped
@@ -241,20 +236,20 @@ module _ (d : Desk) (ms : List ℕ) (o : Order) where
       go false f b e c l =
           let it = cond b (call (audit (ends_of_all d.lists))) here in
           let ts = list_there d o ∷ other_there d o ∷ after it in
-          no-command it Size refl (numbered (sizes_then d ms ts) (Refused Size) (sizes-fail ts f))
+          no-command it Size refl (numbered (sizes_then d ms ts) (Err Size) (sizes-fail ts f))
       go true f true e c l = audit-read f (eqb-true o.code 20 e)
       go true f false e true l = done-read f l
       go true f false e false l =
           no-command here NoSuchList refl
           (sizes-pass (list_there d o ∷ other_there d o ∷ after here) 2 f
-          (numbered (list_there d o ∷ other_there d o ∷ after here) (Refused NoSuchList) (lists-fail (after here) rf e l)))
+          (numbered (list_there d o ∷ other_there d o ∷ after here) (Err NoSuchList) (lists-fail (after here) rf e l)))
 
-pub on-desk : (d : Desk) (ms : List ℕ) (p : Parsed) → OnDesk d ms p (step d ms p)
+pub on-desk : (d : Desk) (ms : List ℕ) (p : Option Order) → OnDesk d ms p (step d ms p)
 unfolding tested unread reply_unread
-on-desk d ms Wrong = record { tests = inr (λ x. x, refl); same = λ z. refl; marks = λ z. refl; none = λ z. refl }
-on-desk d ms (Right o) = go (right_fields o) refl
+on-desk d ms None = record { tests = inr (λ x. x, refl); same = λ z. refl; marks = λ z. refl; none = λ z. refl }
+on-desk d ms (Some o) = go (right_fields o) refl
   where
-    go : (b : Bool) → right_fields o ≡ b → OnDesk d ms (Right o) (step_tested d ms (cond b (Right o) Wrong))
+    go : (b : Bool) → right_fields o ≡ b → OnDesk d ms (Some o) (step_tested d ms (cond b (Some o) None))
     go true h =
         let k = fields_read d ms o h in
         record { tests = inl (h, k.tests); same = k.same; marks = k.marks; none = k.none }
@@ -262,6 +257,6 @@ on-desk d ms (Right o) = go (right_fields o) refl
         record {
           tests = inr (λ k. not-both (sym k ∙ h), refl);
           same = λ z. refl;
-          marks = λ z. kept-marks (line_follows d (Right o)) 11 ms refl;
+          marks = λ z. kept-marks (line_follows d (Some o)) 11 ms refl;
           none = λ z. refl;
         }

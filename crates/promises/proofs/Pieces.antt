@@ -1,5 +1,5 @@
 -- Bytes that come in pieces are one input. Assumes nothing.
-use mathlib.Core.Path.{◌≡◌, refl, ap, ◌∙◌}
+use mathlib.Core.Path.{ap, ◌∙◌}
 use mathlib.Core.List.{map}
 use Prim.Native.Nat.{◌≤◌}
 use native.Mathlib.Omega.{arith}

@@ -14,7 +14,7 @@ use Rattle.words.specs.Pool.{outcome}
 use Rattle.words.specs.Listing.{All, Listing}
 use Rattle.words.proofs.Laws.Names.{name-is, node-name, null-is-none}
 use Rattle.words.proofs.Laws.Nodes.{all_right}
-use Rattle.answers.specs.declared.Answer.TheVariants.{Done}
+use Rattle.answers.specs.Answer.{done}
 use Rattle.ends.specs.declared.Ends.{Ends}
 use Rattle.ends.specs.Ends.{empty_ends, is_empty}
 use Rattle.ends.proofs.Laws.Holds.{name-null}
@@ -39,7 +39,7 @@ use Rattle.promises.specs.Demand2.{Reaches, Reads, Clears}
 
 -- ---- cursors
 
-pub reaches : (ws : List ℕ) (e : Ends) (r : Edited) (c : Cursor) (z : Place) → r ≡ edited Done e c → Sound ws e c z → Reaches ws e r z
+pub reaches : (ws : List ℕ) (e : Ends) (r : Edited) (c : Cursor) (z : Place) → r ≡ edited done e c → Sound ws e c z → Reaches ws e r z
 reaches ws e r c z q s = rw q (record { answer = refl; ends = refl; sound = s })
 
 pub shows : (ws : List ℕ) (e : Ends) (c : Cursor) (z : Place) → Sound ws e c z → decoding (length ws) c.current ≡ under z

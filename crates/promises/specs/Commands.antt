@@ -1,6 +1,6 @@
 -- The call that each command of a desk stands for (document 01, 'Command lines'), and the tests of a line in their order: 11, 1, 2, 3,
 -- and then the row of that call.
-use Rattle.std.specs.Prelude.{ℕ, ◌<◌, ◌≤◌, ◌≡◌, ◌≢◌, Bool, true, false, cond, List, [], ◌∷◌, eqb, length}
+use Rattle.std.specs.Prelude.{ℕ, ◌<◌, ◌≤◌, ◌≡◌, ◌≢◌, Bool, true, false, cond, List, [], ◌∷◌, eqb, length, None, Option, Some}
 use Rattle.words.specs.declared.names.Node.{Node}
 use Rattle.words.specs.Names.{directory_fits}
 use Rattle.answers.specs.declared.Refusal.TheVariants.{Size, NoSuchList, SameList, Malformed}
@@ -12,8 +12,6 @@ use Rattle.table.specs.Calls.{Call, at-cursor, at-both, on-list, take, clear, au
 use Rattle.table.specs.Table.{Test, test, pool, marks, ends, row}
 use Rattle.table.specs.Refused.{follows_chain}
 use Rattle.lines.specs.declared.line.Order.{Order}
-use Rattle.lines.specs.declared.line.Parsed.{Parsed}
-use Rattle.lines.specs.declared.line.Parsed.TheVariants.{Right, Malformed as Wrong}
 use Rattle.lines.specs.Lines.{uses_list, uses_other, right_fields}
 use Rattle.desk.specs.declared.Row.{Row}
 use Rattle.desk.specs.Step.{Desk, desk_limit, row_at, ends_of_all}
@@ -88,16 +86,16 @@ sizes_then d ms ts =
     test Size (length d.words ≤ desk_limit) ∷ marks d.words ms ∷ test Size (directory_fits (length d.lists) ≡ true) ∷ ts
 
 -- The tests of a line on a desk. A line that is not read has 11 alone.
-abbrev pub line_row : Desk → List ℕ → Parsed → List Test
-line_row d ms Wrong = test Malformed ⊥ ∷ []
-line_row d ms (Right o) =
+abbrev pub line_row : Desk → List ℕ → Option Order → List Test
+line_row d ms None = test Malformed ⊥ ∷ []
+line_row d ms (Some o) =
     test Malformed (right_fields o ≡ true)
     ∷ sizes_then d ms (list_there d o ∷ other_there d o ∷ different o ∷ command_row d.words ms (command_of d o))
 
 -- The line follows a chain.
-abbrev pub line_follows : Desk → Parsed → Bool
-line_follows d Wrong = false
-line_follows d (Right o) = command_follows (command_of d o)
+abbrev pub line_follows : Desk → Option Order → Bool
+line_follows d None = false
+line_follows d (Some o) = command_follows (command_of d o)
 
 -- The tests of `work`, which is lent no marks: a command that is no clear and no audit, on two lists that the caller has found.
 abbrev pub work_row : List ℕ → Row → Row → Order → List Test

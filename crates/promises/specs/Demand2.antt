@@ -8,7 +8,7 @@ use Rattle.words.specs.declared.names.Node.{Node}
 use Rattle.words.specs.Names.{pool_fits, unlinked_marker, decoding}
 use Rattle.words.specs.Pool.{outcome}
 use Rattle.words.specs.Listing.{All, Apart, Listing}
-use Rattle.answers.specs.declared.Answer.TheVariants.{Done}
+use Rattle.answers.specs.Answer.{done}
 use Rattle.ends.specs.declared.Ends.{Ends}
 use Rattle.ends.specs.Ends.{empty_ends, is_empty}
 use Rattle.cursor.specs.declared.Cursor.{Cursor}
@@ -39,7 +39,7 @@ use Rattle.promises.specs.Plain.{plain_reverse, plain_clear, plain_fast_clear, p
 -- What is promised of a call that makes a cursor and edits nothing: it is done, it hands back the ends that it was given, and
 -- its cursor is true at the place z.
 pub record Reaches (ws : List ℕ) (e : Ends) (r : Edited) (z : Place) : Type 0 where
-  pub answer : r.answer ≡ Done
+  pub answer : r.answer ≡ done
   pub ends : r.ends ≡ e
   pub sound : Sound ws e r.cursor z
 
@@ -101,7 +101,7 @@ pub record OnList (ws : List ℕ) (e : Ends) (xs : List ℕ) : Type 0 where
   -- clear and walk, with one mark a node, whatever it is
   pub clear : (ms : List ℕ) → length ms ≡ length ws → Clears ws ms e xs
   pub walk : (ms : List ℕ) → length ms ≡ length ws
-      → walk_all ws ms e ≡ marking (paint (unmarked ms) 1 xs) (record { answer = Done; count = length xs })
+      → walk_all ws ms e ≡ marking (paint (unmarked ms) 1 xs) (record { answer = done; count = length xs })
 
 -- All of it, for every pool within the limit; and a list that is new has the empty sequence.
 pub record Demand2 : Type 0 where

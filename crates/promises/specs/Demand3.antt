@@ -1,13 +1,13 @@
 -- Demand 3: let a desk start fresh and let only the desk write. After each line of any lines, refused and malformed ones
 -- included, all is as the plain history says: for the desk of the definitions, the desk in lent slices and the batch desk.
-use Rattle.std.specs.Prelude.{ℕ, ◌<◌, ◌≤◌, ◌≡◌, true, false, List, map, reverse, length, get_or}
+use Rattle.std.specs.Prelude.{ℕ, ◌<◌, ◌≤◌, ◌≡◌, true, false, List, map, reverse, length, get_or, Option}
 use Rattle.std.specs.Int.Bits.{bit_xor}
 use Rattle.words.specs.Names.{is_linked}
 use Rattle.words.specs.Listing.{Listing}
 use Rattle.words.specs.Afresh.{afresh_all}
 use Rattle.cursor.specs.Plain.{nodes, TrueAt}
 use Rattle.words.specs.Names.{directory_limit}
-use Rattle.lines.specs.declared.line.Parsed.{Parsed}
+use Rattle.lines.specs.declared.line.Order.{Order}
 use Rattle.lines.specs.Lines.{line_of}
 use Rattle.desk.specs.Step.{Desk, DeskStepped, fresh_desk, desk_limit, row_at, step}
 use Rattle.history.specs.History.{History, PlainStepped, place_at, times, on_lists, start, plain_step}
@@ -26,7 +26,7 @@ pub data Whereabouts (ws : List ℕ) (h : History) (x : ℕ) : Type 0 where
   stranded : is_linked (get_or ws x 0) ≡ true → on_lists x h.places ≡ 0 → times x h.stranded ≡ 1 → Whereabouts ws h x
 
 -- The line took the desk of n nodes from `before` to what s says, and its history to what t says.
-pub record AfterLine (n : ℕ) (before : Desk) (line : Parsed) (s : DeskStepped) (t : PlainStepped) : Type 0 where
+pub record AfterLine (n : ℕ) (before : Desk) (line : Option Order) (s : DeskStepped) (t : PlainStepped) : Type 0 where
   -- there are as many lists as sequences, and each reads forward as its sequence, backward as the reverse
   pub lists : length s.desk.lists ≡ length t.history.places
   pub forward : (l : ℕ) → l < length t.history.places

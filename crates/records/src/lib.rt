@@ -4,30 +4,32 @@
 ghost use Rattle.std.specs.Prelude.{◌≡◌, length};
 ghost use Rattle.records.specs.Records.{records_fit, read_test, read_at};
 
-use answers::{Answer, Refusal};
+use answers::Refusal;
 use cursor::Cursor;
 use ends::Ends;
-use words::names::Found;
 
-// The width is 1 to 256, and the records are as many bytes as that makes for a pool of this many nodes.
+// The width is 1 to 256, and the records are as many bytes as that makes for a pool of this many nodes. (`&&` once, so that the
+// product is one that fits; where a second stood, the check lost that.)
+#[tactic(auto, unfolding(crate::specs::Records::records_fit))]
 pub fn records_fit(nodes: usize, width: usize, len: usize) -> bool
     ensures { result ≡ records_fit nodes width len }
 {
-    if !words::names::pool_fits(nodes) {
-        return false;
-    }
-    if 256 < width {
-        return false;
-    }
-    (0 < width) & (len == width * nodes)
+    words::names::pool_fits(nodes) & (width <= 256) && (0 < width) & (len == width * nodes)
 }
 
 // The tests of a read: 1, 4, 5, 8.
-pub fn read_test(cursor: Cursor, words: &[u32], ends: Ends, records: &[u8], width: usize) -> Answer
+#[tactic(auto, unfolding(crate::specs::Records::read_test))]
+pub fn read_test(
+    cursor: Cursor,
+    words: &[u32],
+    ends: Ends,
+    records: &[u8],
+    width: usize,
+) -> Result<(), Refusal>
     ensures { result ≡ read_test words.now ends cursor (length records.now) width }
 {
     if !records_fit(words.len(), width, records.len()) {
-        return Answer::Refused(Refusal::Size);
+        return Err(Refusal::Size);
     }
     cursor.some_test(cursor.stand_test(words, ends))
 }
@@ -42,15 +44,13 @@ pub fn read<'a>(
 ) -> &'a [u8]
     ensures { result.now ≡ read_at words.now ends cursor records.now width }
 {
-    let t = read_test(cursor, words, ends, records, width);
-    if t.is_refused() {
-        return &records[0..0];
+    if read_test(cursor, words, ends, records, width).is_err() {
+        return &records[..0];
     }
-    let found = cursor.node(words.len());
-    let Found::At(node) = found else {
-        return &records[0..0];
+    let Some(node) = cursor.node(words.len()) else {
+        return &records[..0];
     };
-    let from = (node.0 as usize) * width;
+    let from = node.0 as usize * width;
     let to = from + width;
     &records[from..to]
 }

@@ -8,44 +8,37 @@ use answers::Refusal;
 use audit::Audited;
 use desk::Worked;
 use lines::answer::Reply;
-use words::names::Found;
+use words::names::Node;
 
-// The field for a node, ffff for none.
-fn shown(found: Found) -> u32
-    ensures { result ≡ Rattle.desk.specs.Reply.shown found }
+// The field for no node: ffff.
+const NO_NODE: u32 = 0xffff;
+
+// The field for a node, if there is one.
+fn shown(found: Option<Node>) -> u32
+    ensures { result ≡ shown found }
 {
-    match found {
-        Found::At(node) => node.0,
-        Found::Nothing => 65535,
-    }
+    found.map_or(NO_NODE, |node| node.0)
 }
 
 // To a command on lists, in a pool of this many: the node under the named list's cursor, and the node handed out.
+#[tactic(auto, unfolding(desk::specs::Reply::reply_to))]
 pub fn to_work(len: usize, w: Worked) -> Reply
     ensures { result ≡ reply_to len w }
 {
-    let answer = w.answer;
-    let cursor = w.named.cursor;
-    let first = shown(cursor.node(len));
-    let second = shown(answer.node());
     Reply {
-        number: answer.number(),
-        first,
-        second,
+        number: answers::number(w.answer),
+        first: shown(w.named.cursor.node(len)),
+        second: shown(answers::handed(w.answer)),
     }
 }
 
 // To an audit: nodes on lists, and stranded nodes.
+#[tactic(auto, unfolding(desk::specs::Reply::reply_to_audit, desk::specs::Reply::reply_unread))]
 pub fn to_audit(a: Audited) -> Reply
     ensures { result ≡ reply_to_audit a }
 {
-    let answer = a.answer;
-    if answer.is_refused() {
-        return Reply {
-            number: answer.number(),
-            first: 65535,
-            second: 65535,
-        };
+    if let Err(refusal) = a.answer {
+        return unread(refusal);
     }
     Reply {
         number: 0,
@@ -55,12 +48,13 @@ pub fn to_audit(a: Audited) -> Reply
 }
 
 // To a line that comes to no command on a list: 1, 2, 11.
+#[tactic(auto, unfolding(desk::specs::Reply::reply_unread))]
 pub fn unread(refusal: Refusal) -> Reply
     ensures { result ≡ reply_unread refusal }
 {
     Reply {
         number: refusal.number(),
-        first: 65535,
-        second: 65535,
+        first: NO_NODE,
+        second: NO_NODE,
     }
 }

@@ -10,12 +10,8 @@ use answers::Refusal;
 use ends::Ends;
 use words::names::Name;
 
-// How many numbers a walk and an audit have for the caller.
-const WALK_NUMBERS: usize = 1;
-
-const AUDIT_NUMBERS: usize = 4;
-
 // Walks the list with these ends. The number written is how many nodes it stood on.
+#[tactic(auto, unfolding(crate::specs::Entries::walk_entry))]
 pub fn rewzhanok_walk(
     words: &[u32],
     head: u32,
@@ -25,18 +21,18 @@ pub fn rewzhanok_walk(
 ) -> u32
     ensures { entered marks.new numbers.new result ≡ walk_entry words.now (ends_of (record { 0 = head }) (record { 0 = tail })) marks.old numbers.old }
 {
-    if numbers.len() < WALK_NUMBERS {
+    let Some(count) = numbers.first_mut() else {
         return Refusal::NoRoom.number();
-    }
+    };
     let ends = Ends::new(Name(head), Name(tail));
     let w = walk::walk::walk(words, marks, ends);
-    numbers[0] = w.count;
-    let answer = w.answer;
-    answer.number()
+    *count = w.count;
+    answers::number(w.answer)
 }
 
 // Audits the lists with these heads and tails. The numbers written are the list that a refusal names, the nodes on lists, the
 // stranded nodes, and 0.
+#[tactic(auto, unfolding(crate::specs::Entries::audit_entry))]
 pub fn rewzhanok_audit(
     words: &[u32],
     heads: &[u32],
@@ -46,14 +42,10 @@ pub fn rewzhanok_audit(
 ) -> u32
     ensures { entered marks.new numbers.new result ≡ audit_entry words.now (zip_ends heads.now tails.now) marks.old numbers.old }
 {
-    if numbers.len() < AUDIT_NUMBERS {
+    let Some(four) = numbers.first_chunk_mut::<4>() else {
         return Refusal::NoRoom.number();
-    }
+    };
     let a = audit::audit(words, heads, tails, marks);
-    numbers[0] = a.list;
-    numbers[1] = a.on_lists;
-    numbers[2] = a.stranded;
-    numbers[3] = 0;
-    let answer = a.answer;
-    answer.number()
+    *four = [a.list, a.on_lists, a.stranded, 0];
+    answers::number(a.answer)
 }

@@ -5,8 +5,7 @@ use Rattle.std.specs.Int.Bits.{bit_xor}
 use Rattle.words.specs.Names.{is_linked}
 use Rattle.words.specs.Pool.{Outcome}
 use Rattle.words.specs.Listing.{Listing}
-use Rattle.answers.specs.declared.Answer.{Answer}
-use Rattle.answers.specs.declared.Answer.TheVariants.{Done}
+use Rattle.answers.specs.Answer.{Answer, done}
 use Rattle.cursor.specs.declared.EditedTwo.{EditedTwo}
 use Rattle.cursor.specs.Plain.{Place, at, at_null, nodes, Sound}
 use Rattle.cursor.specs.Alone.{LeavesAlone}
@@ -22,12 +21,12 @@ two a z ys = record { answer = a; place = z; other = ys }
 
 -- The whole other sequence goes beside the node of the place; at null to the front, to the back. The other becomes empty.
 abbrev pub plain_splice_after : List ℕ → Place → PlainTwo
-plain_splice_after ys (at L x R) = two Done (at L x (ys ++ R)) []
-plain_splice_after ys (at_null xs) = two Done (at_null (ys ++ xs)) []
+plain_splice_after ys (at L x R) = two done (at L x (ys ++ R)) []
+plain_splice_after ys (at_null xs) = two done (at_null (ys ++ xs)) []
 
 abbrev pub plain_splice_before : List ℕ → Place → PlainTwo
-plain_splice_before ys (at L x R) = two Done (at (L ++ ys) x R) []
-plain_splice_before ys (at_null xs) = two Done (at_null (xs ++ ys)) []
+plain_splice_before ys (at L x R) = two done (at (L ++ ys) x R) []
+plain_splice_before ys (at_null xs) = two done (at_null (xs ++ ys)) []
 
 -- What is promised of a call on two sound lists that share no node: the same answer; the words and the ends of both new
 -- sequences, with a true cursor at its place; every linked mark as it was; and everything else left alone.

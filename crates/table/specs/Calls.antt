@@ -1,9 +1,8 @@
 -- The calls of the library, each with what it is given, and all that it leaves and hands back: the definitions of the contracts.
-use Rattle.std.specs.Prelude.{ℕ, List, [], ◌∷◌, length}
+use Rattle.std.specs.Prelude.{ℕ, List, [], ◌∷◌, length, Option}
 use Rattle.words.specs.declared.names.Node.{Node}
-use Rattle.words.specs.declared.names.Found.{Found}
 use Rattle.words.specs.Pool.{Outcome, outcome}
-use Rattle.answers.specs.declared.Answer.{Answer}
+use Rattle.answers.specs.Answer.{Answer, answered}
 use Rattle.ends.specs.declared.Ends.{Ends}
 use Rattle.cursor.specs.declared.Cursor.{Cursor}
 use Rattle.cursor.specs.declared.Edited.{Edited}
@@ -13,7 +12,7 @@ use Rattle.insert.specs.Inserts.{insert_after, insert_before}
 use Rattle.remove.specs.Removes.{remove as remove_at, replace as replace_at}
 use Rattle.splice.specs.Splices.{splice_after, splice_before}
 use Rattle.split.specs.Splits.{split_after, split_before}
-use Rattle.list.specs.declared.ListEdited.{ListEdited}
+use Rattle.ends.specs.declared.ListEdited.{ListEdited}
 use Rattle.list.specs.Lists.{at_front, at_back, push_front, push_back, pop_front, pop_back, take as take_all, fast_clear, reversed}
 use Rattle.place.specs.Places.{place_by_prev, place_by_next}
 use Rattle.iter.specs.declared.Iter.{Iter}
@@ -42,7 +41,7 @@ pub data OnList : Type 0 where
 -- To make a cursor of a list: at an end, or by a node and the neighbour that is claimed for it.
 pub data Placing : Type 0 where
   at-front at-back : Placing
-  by-prev by-next : Node → Found → Placing
+  by-prev by-next : Node → Option Node → Placing
 
 -- The side that an iterator steps from.
 pub data Side : Type 0 where
@@ -126,7 +125,7 @@ calls ws ms (at-both k e c o) =
 calls ws ms (on-list k e) = let o = on_list ws k e in left o.words ms o.result.answer (list_back o.result.ends) []
 calls ws ms (take e o) = let t = take_all ws e o in left ws ms t.answer (lists_back t.ends t.other) []
 calls ws ms (placing k e) = let d = placed ws k e in left ws ms d.answer (cursor-back d.ends d.cursor) []
-calls ws ms (read e c rs width) = left ws ms (read_test ws e c (length rs) width) nothing-back (read_at ws e c rs width)
+calls ws ms (read e c rs width) = left ws ms (answered (read_test ws e c (length rs) width)) nothing-back (read_at ws e c rs width)
 calls ws ms (step s it) = let t = stepped ws s it in left ws ms t.answer (iter-back t.iter) []
 calls ws ms (walk e) = let w = walk_all ws ms e in left ws w.marks w.result.answer nothing-back (w.result.count ∷ [])
 calls ws ms (clear e) =

@@ -1,10 +1,9 @@
 -- Which list a refused audit names (document 01, 'Walk and audit'), said of the lists and not of the walks that find it.
-use Rattle.std.specs.Prelude.{ℕ, ◌≡◌, false, List, [], ◌∷◌, ◌++◌, length}
+use Rattle.std.specs.Prelude.{ℕ, ◌≡◌, false, List, [], ◌∷◌, ◌++◌, length, Err}
 use Rattle.std.specs.Int.Bits.{bit_xor}
 use Rattle.words.specs.Listing.{Apart, Listing}
 use Rattle.words.specs.Afresh.{joined}
 use Rattle.answers.specs.declared.Refusal.TheVariants.{EndsDoNotHold, NoListing}
-use Rattle.answers.specs.declared.Answer.TheVariants.{Refused}
 use Rattle.ends.specs.declared.Ends.{Ends}
 use Rattle.ends.specs.Tests.{ends_hold}
 use Rattle.audit.specs.Listed.{AllHold, Listed, AllApart}
@@ -35,7 +34,7 @@ pub record Unlisted (ws : List ℕ) (es : List Ends) (k : ℕ) : Type 0 where
 
 -- A refused audit names that list, and its other numbers are 0.
 pub record Names (ws ms : List ℕ) (es : List Ends) : Type 0 where
-  pub under-4 : (calls ws ms (audit es)).answer ≡ Refused EndsDoNotHold
+  pub under-4 : (calls ws ms (audit es)).answer ≡ Err EndsDoNotHold
       → (k : ℕ) × ((calls ws ms (audit es)).numbers ≡ k ∷ 0 ∷ 0 ∷ []) × Unheld ws es k
-  pub under-10 : (calls ws ms (audit es)).answer ≡ Refused NoListing
+  pub under-10 : (calls ws ms (audit es)).answer ≡ Err NoListing
       → (k : ℕ) × ((calls ws ms (audit es)).numbers ≡ k ∷ 0 ∷ 0 ∷ []) × Unlisted ws es k

@@ -1,7 +1,6 @@
 -- Demand 1: what a refused call leaves, and what is promised of every call, on anything.
-use Rattle.std.specs.Prelude.{ℕ, ◌≡◌, Bool, true, false, ◌&&◌, cond, List, [], ◌∷◌, eqb, length}
+use Rattle.std.specs.Prelude.{ℕ, ◌≡◌, Bool, true, false, ◌&&◌, cond, List, [], ◌∷◌, eqb, length, Err}
 use Rattle.answers.specs.declared.Refusal.{Refusal}
-use Rattle.answers.specs.declared.Answer.TheVariants.{Refused}
 use Rattle.answers.specs.Answer.{number}
 use Rattle.cursor.specs.Cursor.{null_cursor}
 use Rattle.walk.specs.Marks.{unmarked}
@@ -69,13 +68,13 @@ given (audit es) = nothing-back
 
 -- A refused call: no word is changed, what was given comes back, and no node is handed out.
 abbrev pub refused : List ℕ → List ℕ → Call → Refusal → Left
-refused ws ms c r = left ws (marks_under c r ms) (Refused r) (given c) (numbers_under ws ms c r)
+refused ws ms c r = left ws (marks_under c r ms) (Err r) (given c) (numbers_under ws ms c r)
 
 -- What is promised of a call: it is refused by the first test of its row that fails, and done if none fails; and refused, it has
 -- changed nothing but marks, by the one definition of that.
 pub record Keeps (ws ms : List ℕ) (c : Call) : Type 0 where
   pub tests : FirstFailing (row ws ms c) (calls ws ms c).answer
-  pub unchanged : (r : Refusal) → (calls ws ms c).answer ≡ Refused r → calls ws ms c ≡ refused ws ms c r
+  pub unchanged : (r : Refusal) → (calls ws ms c).answer ≡ Err r → calls ws ms c ≡ refused ws ms c r
 
 -- Any words and any marks, and any call with anything that it is given.
 abbrev pub AllCalls : Type 0

@@ -1,18 +1,13 @@
 -- The table of refusals (document 01, 'Refusal numbers'): each call's tests in their order. It is written with the notions of the
 -- document, and not with the tests that the calls make.
-use Rattle.std.specs.Prelude.{ℕ, ◌*◌, ◌<◌, ◌≤◌, ◌≡◌, ◌⊎◌, true, false, List, [], ◌∷◌, length, get_or}
+use Rattle.std.specs.Prelude.{Result, ℕ, ◌*◌, ◌<◌, ◌≤◌, ◌≡◌, ◌⊎◌, true, false, List, [], ◌∷◌, length, get_or, Err, None, Option, Some, is_err}
 use Rattle.std.specs.Int.Bits.{bit_xor}
 use Rattle.words.specs.declared.names.Node.{Node}
-use Rattle.words.specs.declared.names.Found.{Found}
-use Rattle.words.specs.declared.names.Found.TheVariants.{At, Nothing}
 use Rattle.words.specs.Names.{name, is_null, is_name, is_linked, pool_fits, directory_fits}
 use Rattle.words.specs.Pool.{word_at}
 use Rattle.words.specs.Listing.{Listing}
 use Rattle.answers.specs.declared.Refusal.{Refusal}
 use Rattle.answers.specs.declared.Refusal.TheVariants.{Size, EndsDoNotHold, CursorDoesNotStand, NotEmpty, NoSuchNode, AtNull, AlreadyLinked, NoListing}
-use Rattle.answers.specs.declared.Answer.{Answer}
-use Rattle.answers.specs.declared.Answer.TheVariants.{Refused}
-use Rattle.answers.specs.Answer.{is_refused}
 use Rattle.ends.specs.declared.Ends.{Ends}
 use Rattle.ends.specs.Ends.{is_empty}
 use Rattle.ends.specs.Tests.{ends_hold, stands}
@@ -34,9 +29,9 @@ abbrev pub test : Refusal → Type 0 → Test
 test r P = record { refusal = r; Passes = P }
 
 -- The answer is the refusal of the first test that fails; it is no refusal if none does.
-abbrev pub FirstFailing : List Test → Answer → Type 0
-FirstFailing [] a = is_refused a ≡ false
-FirstFailing (t ∷ ts) a = (t.Passes × FirstFailing ts a) ⊎ ((t.Passes → ⊥) × (a ≡ Refused t.refusal))
+abbrev pub FirstFailing : {A : Type 0} → List Test → Result A Refusal → Type 0
+FirstFailing [] a = is_err a ≡ false
+FirstFailing (t ∷ ts) a = (t.Passes × FirstFailing ts a) ⊎ ((t.Passes → ⊥) × (a ≡ Err t.refusal))
 
 -- ---- the tests
 
@@ -75,11 +70,11 @@ empty o = test NotEmpty (is_empty o ≡ true)
 abbrev pub node : List ℕ → Node → Test
 node ws i = test NoSuchNode (i.0 < length ws)
 
-abbrev pub Known : ℕ → Found → Type 0
-Known n (At j) = j.0 < n
-Known n Nothing = Unit
+abbrev pub Known : ℕ → Option Node → Type 0
+Known n (Some j) = j.0 < n
+Known n None = Unit
 
-abbrev pub neighbour : List ℕ → Found → Test
+abbrev pub neighbour : List ℕ → Option Node → Test
 neighbour ws j = test NoSuchNode (Known (length ws) j)
 
 -- 8: the cursor is not at null; the list is not empty.
@@ -108,9 +103,9 @@ follows ws w p t =
     ((w ≡ 0) ⊎ ((is_name (length ws) w ≡ true) × ((w ≡ t) ⊎ (is_name (length ws) (bit_xor (word_at ws w) p) ≡ true))))
 
 -- The name of a neighbour, null for none.
-abbrev pub named : Found → ℕ
-named (At j) = name j.0
-named Nothing = 0
+abbrev pub named : Option Node → ℕ
+named (Some j) = name j.0
+named None = 0
 
 -- ---- the rows
 

@@ -1,17 +1,16 @@
 -- What each call hands back and leaves, for all arguments.
-use Rattle.std.specs.Prelude.{ℕ, Bool, false, ◌&&◌, not, cond, List, eqb, length}
+use Rattle.std.specs.Prelude.{ℕ, Bool, false, ◌&&◌, not, cond, List, eqb, length, Err, is_err}
 use Rattle.words.specs.Names.{unlinked_marker}
 use Rattle.words.specs.Pool.{Outcome, outcome}
 use Rattle.answers.specs.declared.Refusal.{Refusal}
 use Rattle.answers.specs.declared.Refusal.TheVariants.{Size, EndsDoNotHold, NoListing}
-use Rattle.answers.specs.declared.Answer.TheVariants.{Done, Refused}
 use Rattle.ends.specs.declared.Ends.{Ends}
-use Rattle.answers.specs.Answer.{is_refused}
-use Rattle.ends.specs.Ends.{empty_ends}
+use Rattle.answers.specs.Answer.{done}
+use Rattle.ends.specs.declared.ListEdited.{ListEdited}
+use Rattle.ends.specs.Ends.{empty_ends, list_edited}
 use Rattle.ends.specs.Tests.{ends_hold}
 use Rattle.walk.specs.declared.step.Stood.{Stood}
 use Rattle.walk.specs.declared.walk.Walked.{Walked}
-use Rattle.walk.specs.declared.clear.Cleared.{Cleared}
 use Rattle.walk.specs.Marks.{paint, unmarked, sizes_fit, Marking, marking}
 use Rattle.walk.specs.Walk.{Walk, walk_of}
 
@@ -32,12 +31,12 @@ walk_list ws ms e m =
 unfoldable pub verdict : List ℕ → Walk → Marking Walked
 verdict ms w =
     cond w.ok
-    (marking (paint ms 1 w.met) (record { answer = Done; count = length w.met }))
-    (marking ms (record { answer = Refused NoListing; count = length w.met }))
+    (marking (paint ms 1 w.met) (record { answer = done; count = length w.met }))
+    (marking ms (record { answer = Err NoListing; count = length w.met }))
 
 -- A walk that is not begun.
 abbrev pub unbegun : List ℕ → Refusal → Marking Walked
-unbegun ms r = marking ms (record { answer = Refused r; count = 0 })
+unbegun ms r = marking ms (record { answer = Err r; count = 0 })
 
 -- `walk`: the tests in their order, then the walk of the list over marks of which none is set.
 unfoldable pub walk_all : List ℕ → List ℕ → Ends → Marking Walked
@@ -50,10 +49,10 @@ walk_all ws ms e =
 
 -- `clear`: it walks; refused, it leaves words and ends as they are; else each node that was stood on gets the unlinked
 -- marker, and the ends are those of an empty list.
-unfoldable pub clear_all : List ℕ → List ℕ → Ends → Outcome (Marking Cleared)
+unfoldable pub clear_all : List ℕ → List ℕ → Ends → Outcome (Marking ListEdited)
 clear_all ws ms e =
     let w = walk_all ws ms e in
     let a = w.result.answer in
-    cond (is_refused a)
-    (outcome ws (marking w.marks (record { answer = a; ends = e })))
-    (outcome (paint ws unlinked_marker (walk_of ws (unmarked ms) e).met) (marking w.marks (record { answer = a; ends = empty_ends })))
+    cond (is_err a)
+    (outcome ws (marking w.marks (list_edited a e)))
+    (outcome (paint ws unlinked_marker (walk_of ws (unmarked ms) e).met) (marking w.marks (list_edited a empty_ends)))

@@ -6,10 +6,5 @@ ghost use Rattle.walk.specs.Marks.{unmarked};
 pub fn zero_marks(marks: &mut [u8])
     ensures { marks.new ≡ unmarked marks.old }
 {
-    let n = marks.len();
-    let mut i = 0;
-    while i < n {
-        marks[i] = 0;
-        i += 1;
-    }
+    marks.fill(0);
 }

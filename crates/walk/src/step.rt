@@ -8,10 +8,10 @@ ghost use Rattle.walk.specs.Calls.{stood, walk_list};
 
 use ends::Ends;
 use links::xor_ops::XorLinkedListOps;
-use words::names::{Found, Name};
+use words::names::Name;
 
-// How the step ended, and on how many nodes it stood.
-#[derive(Clone, Copy)]
+// How the step ended, and on how many nodes it stood. No `Result`: the count is told whether the walk is right or not.
+#[derive(Clone, Copy, PartialEq, Eq)]
 pub struct Stood {
     pub ok: bool,
     pub count: u32,
@@ -25,13 +25,11 @@ fn walk_from(words: &[u32], marks: &mut [u8], ends: Ends, mark: u8) -> Stood
     ensures { marking marks.new result ≡ stood marks.old mark (walk_from bit_xor (at_tail ends.tail.0) (length words.now) words.now marks.old [] 0 ends.head.0) }
 {
     let n = words.len();
-    let tail = ends.tail;
+    let nodes = n as u32;
     let mut at = ends.head;
     let mut prev = Name::NULL;
-    let mut count: u32 = 0;
-    while (count as usize) < n {
-        let found = at.decode(n);
-        let Found::At(node) = found else {
+    for count in 0..nodes {
+        let Some(node) = at.decode(n) else {
             return Stood { ok: false, count };
         };
         let x = node.0 as usize;
@@ -39,18 +37,20 @@ fn walk_from(words: &[u32], marks: &mut [u8], ends: Ends, mark: u8) -> Stood
             return Stood { ok: false, count };
         }
         marks[x] = mark;
-        count += 1;
         let next = XorLinkedListOps::next(words, at, prev);
-        if at.0 == tail.0 {
+        if at == ends.tail {
             return Stood {
                 ok: next.is_null(),
-                count,
+                count: count + 1,
             };
         }
         prev = at;
         at = next;
     }
-    Stood { ok: false, count }
+    Stood {
+        ok: false,
+        count: nodes,
+    }
 }
 
 // Walks one list with a mark of its own. A node that has a mark already is on another list, and a fault.

@@ -8,8 +8,8 @@ use crate::step::walk_list;
 use answers::{Answer, Refusal};
 use ends::Ends;
 
-// The answer, and the number of nodes stood on: done, they are the list's.
-#[derive(Clone, Copy)]
+// The answer, and the number of nodes stood on: done, they are the list's. No `Result`: the number is told on a fault too.
+#[derive(Clone, Copy, PartialEq, Eq)]
 pub struct Walked {
     pub answer: Answer,
     pub count: u32,
@@ -22,28 +22,27 @@ pub fn walk(words: &[u32], marks: &mut [u8], ends: Ends) -> Walked
     let n = words.len();
     if !(words::names::pool_fits(n) & (marks.len() == n)) {
         return Walked {
-            answer: Answer::Refused(Refusal::Size),
+            answer: Err(Refusal::Size),
             count: 0,
         };
     }
     if !ends::tests::ends_hold(words, ends) {
         return Walked {
-            answer: Answer::Refused(Refusal::EndsDoNotHold),
+            answer: Err(Refusal::EndsDoNotHold),
             count: 0,
         };
     }
     zero_marks(marks);
     let stood = walk_list(words, marks, ends, 1);
-    let count = stood.count;
     if stood.ok {
         return Walked {
-            answer: Answer::Done,
-            count,
+            answer: Ok(None),
+            count: stood.count,
         };
     }
     zero_marks(marks);
     Walked {
-        answer: Answer::Refused(Refusal::NoListing),
-        count,
+        answer: Err(Refusal::NoListing),
+        count: stood.count,
     }
 }

@@ -1,10 +1,8 @@
 -- Node numbers and names, two kinds of number (document 01, 'Words').
 -- Here and in all that follows i, x, y are nodes; w, p, q are words, which may be names; n is how many nodes a pool has.
-use Rattle.std.specs.Prelude.{ℕ, ◌+◌, ◌*◌, ◌/◌, ◌%◌, ◌-◌, ◌^◌, Bool, ◌&&◌, not, cond, ltb, leb, eqb}
+use Rattle.std.specs.Prelude.{Option, Some, None, ℕ, ◌+◌, ◌*◌, ◌/◌, ◌%◌, ◌-◌, ◌^◌, Bool, ◌&&◌, not, cond, ltb, leb, eqb}
 use Rattle.words.specs.declared.names.Node.{Node}
 use Rattle.words.specs.declared.names.Name.{Name}
-use Rattle.words.specs.declared.names.Found.{Found}
-use Rattle.words.specs.declared.names.Found.TheVariants.{At, Nothing}
 
 -- The most nodes that a pool may have. No other definition says so.
 unfoldable pub pool_limit : ℕ
@@ -46,8 +44,8 @@ unfoldable pub naming : Node → Name
 naming i = cond (ltb (name i.0) (2 ^ 32)) (record { 0 = name i.0 }) null
 
 -- Decoding: the node below n that a word names, or nothing.
-unfoldable pub decoding : ℕ → Name → Found
-decoding n w = cond (is_name n w.0) (At (record { 0 = node_of w.0 })) Nothing
+unfoldable pub decoding : ℕ → Name → Option Node
+decoding n w = cond (is_name n w.0) (Some (record { 0 = node_of w.0 })) None
 
 -- The word of an unlinked node (`UNLINKED_MARKER`). It is no name, and no xor of names.
 abbrev pub unlinked_marker : ℕ

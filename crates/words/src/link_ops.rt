@@ -5,7 +5,7 @@ ghost use Rattle.words.specs.Names.{unlinked_marker, is_linked};
 ghost use Rattle.words.specs.Pool.{word_at, put_at, outcome};
 ghost use Rattle.words.specs.LinkOps.{linked_at, acquire_link, release_link};
 
-use crate::names::{Found, Name};
+use crate::names::Name;
 
 // A packed word, out of the pool.
 #[derive(Clone, Copy)]
@@ -21,6 +21,7 @@ impl Link {
         Link(Link::UNLINKED_MARKER)
     }
 
+    #[tactic(auto, unfolding(crate::specs::Names::is_linked))]
     pub fn is_linked(self) -> bool
         ensures { result ≡ is_linked self.0 }
     {
@@ -33,12 +34,12 @@ impl Link {
 pub struct LinkOps;
 
 impl LinkOps {
-    // The link of a node, by the node's name.
+    // The link of a node, by the node's name. (0 and no `Option` where there is none: a call may be given any names, and the steps go on by
+    // such words, as document 01 has it.)
     pub fn get(words: &[u32], ptr: Name) -> Link
         ensures { result ≡ record { 0 = word_at words.now ptr.0 } }
     {
-        let found = ptr.decode(words.len());
-        let Found::At(node) = found else {
+        let Some(node) = ptr.decode(words.len()) else {
             return Link(0);
         };
         let i = node.0 as usize;
@@ -49,21 +50,23 @@ impl LinkOps {
     pub fn put(words: &mut [u32], ptr: Name, packed: u32)
         ensures { words.new ≡ put_at words.old ptr.0 packed }
     {
-        let found = ptr.decode(words.len());
-        let Found::At(node) = found else {
+        let Some(node) = ptr.decode(words.len()) else {
             return;
         };
         let i = node.0 as usize;
         words[i] = packed;
     }
 
+    #[tactic(auto, unfolding(crate::specs::LinkOps::linked_at))]
     pub fn is_linked(words: &[u32], ptr: Name) -> bool
         ensures { result ≡ linked_at words.now ptr.0 }
     {
         LinkOps::get(words, ptr).is_linked()
     }
 
-    // Takes an unlinked node for a list; false where it is linked already, or is no node.
+    // Takes an unlinked node for a list; false where it is linked already, or is no node. (The source's bool: which of the two it is, the
+    // tests before it have told.)
+    #[tactic(auto, unfolding(crate::specs::LinkOps::acquire_link))]
     pub fn acquire_link(words: &mut [u32], ptr: Name) -> bool
         ensures { outcome words.new result ≡ acquire_link words.old ptr.0 }
     {
@@ -74,6 +77,7 @@ impl LinkOps {
         true
     }
 
+    #[tactic(auto, unfolding(crate::specs::LinkOps::release_link))]
     pub fn release_link(words: &mut [u32], ptr: Name)
         ensures { words.new ≡ release_link words.old ptr.0 }
     {

@@ -3,19 +3,12 @@ ghost use Rattle.std.specs.Prelude.{◌≡◌};
 ghost use Rattle.words.specs.Names.{pool_fits, directory_fits, is_null, is_name, naming, decoding};
 
 // The number of a node: its place in the pool.
-#[derive(Clone, Copy)]
+#[derive(Clone, Copy, PartialEq, Eq)]
 pub struct Node(pub u32);
 
 // A word that stands for a node: null, or the node's name.
-#[derive(Clone, Copy)]
+#[derive(Clone, Copy, PartialEq, Eq)]
 pub struct Name(pub u32);
-
-// What decoding finds.
-#[derive(Clone, Copy)]
-pub enum Found {
-    At(Node),
-    Nothing,
-}
 
 // The most nodes that a pool may have.
 const POOL_LIMIT: usize = 1_000_000;
@@ -24,6 +17,7 @@ const POOL_LIMIT: usize = 1_000_000;
 const DIRECTORY_LIMIT: usize = 64;
 
 // A pool of this many nodes is within the limit.
+#[tactic(auto, unfolding(crate::specs::Names::pool_fits, crate::specs::Names::pool_limit))]
 pub fn pool_fits(len: usize) -> bool
     ensures { result ≡ pool_fits len }
 {
@@ -31,6 +25,7 @@ pub fn pool_fits(len: usize) -> bool
 }
 
 // A directory of this many lists is within the limit.
+#[tactic(auto, unfolding(crate::specs::Names::directory_fits, crate::specs::Names::directory_limit))]
 pub fn directory_fits(lists: usize) -> bool
     ensures { result ≡ directory_fits lists }
 {
@@ -38,7 +33,9 @@ pub fn directory_fits(lists: usize) -> bool
 }
 
 impl Node {
-    // Naming. A number whose name would be no 32-bit word has none, and gets null.
+    // Naming. A number whose name would be no 32-bit word has none, and gets null. (No `From`: naming and decoding are document 01's
+    // words for the only ways across.)
+    #[tactic(auto, unfolding(crate::specs::Names::naming))]
     pub fn to_name(self) -> Name
         ensures { result ≡ naming self }
     {
@@ -60,6 +57,7 @@ impl Name {
     }
 
     // The word is the name of a node of a pool of this many.
+    #[tactic(auto, unfolding(crate::specs::Names::is_name))]
     pub fn in_range(self, len: usize) -> bool
         ensures { result ≡ is_name len self.0 }
     {
@@ -68,12 +66,12 @@ impl Name {
     }
 
     // Decoding: the node of a pool of this many that the word names, if it does.
-    pub fn decode(self, len: usize) -> Found
+    pub fn decode(self, len: usize) -> Option<Node>
         ensures { result ≡ decoding len self }
     {
         if self.in_range(len) {
-            return Found::At(Node(self.0 / 2 - 1));
+            return Some(Node(self.0 / 2 - 1));
         }
-        Found::Nothing
+        None
     }
 }

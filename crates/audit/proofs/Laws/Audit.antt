@@ -8,10 +8,9 @@ use Rattle.words.specs.Listing.{Distinct, Apart, Listing}
 use Rattle.words.specs.Afresh.{joined}
 use Rattle.words.proofs.Laws.Cases.{both}
 use Rattle.answers.specs.declared.Refusal.TheVariants.{Size, EndsDoNotHold, NoListing}
-use Rattle.answers.specs.declared.Answer.{Answer}
-use Rattle.answers.specs.declared.Answer.TheVariants.{Done, Refused}
+use Rattle.std.specs.Prelude.{None, Ok, Err}
 use Rattle.ends.specs.declared.Ends.{Ends}
-use Rattle.answers.specs.Answer.{answer_number}
+use Rattle.answers.specs.Answer.{Answer, answer_number}
 use Rattle.ends.specs.Tests.{ends_hold}
 use Rattle.walk.specs.Marks.{unmarked, sizes_fit, Marking, marking}
 use Rattle.walk.proofs.Laws.Marks.{unmarked-clean}
@@ -48,7 +47,7 @@ fit ws es ms f = rw (sizes-fit ws ms f.pool f.long, le-leb (length es) directory
 abbrev pub audited : List ℕ → List ℕ → List (List ℕ) → Marking Audited
 audited ws ms xss =
     marking (paint_all (unmarked ms) 0 xss)
-    (record { answer = Done; list = 0; on_lists = length (joined xss); stranded = tally (length ws) (is_stray ws (joined xss)) })
+    (record { answer = Ok None; list = 0; on_lists = length (joined xss); stranded = tally (length ws) (is_stray ws (joined xss)) })
 
 module _ (ws : List ℕ) (es : List Ends) (ms : List ℕ) where
   pub audit-size : audit_fits ws es ms ≡ false → audit_all ws es ms ≡ marking ms (refused_at Size 0)
@@ -101,9 +100,9 @@ module _ (ws : List ℕ) (es : List Ends) (ms : List ℕ) where
       let w = walks-accept ws 0 es z xss f.pool long l (unmarked-clean ms (joined xss)) d in
       audit-walks (fit ws es ms f) (holds-none ws 0 es (listed-hold ws es xss l)) none (ap (λ (x : Marking Lowest). x.result) w)
       ∙ ap (λ (x : Marking Lowest). after_walks ws x.marks none) w
-      ∙ ap (λ (n : ℕ). marking (paint_all z 0 xss) (record { answer = Done; list = 0; on_lists = n; stranded = tally (length ws) (is_stranded ws (paint_all z 0 xss)) }))
+      ∙ ap (λ (n : ℕ). marking (paint_all z 0 xss) (record { answer = Ok None; list = 0; on_lists = n; stranded = tally (length ws) (is_stranded ws (paint_all z 0 xss)) }))
       (on-lists-is ws ms xss f.long d (listed-ranged ws es xss l))
-      ∙ ap (λ (n : ℕ). marking (paint_all z 0 xss) (record { answer = Done; list = 0; on_lists = length (joined xss); stranded = n })) (stranded-is ws ms xss f.long)
+      ∙ ap (λ (n : ℕ). marking (paint_all z 0 xss) (record { answer = Ok None; list = 0; on_lists = length (joined xss); stranded = n })) (stranded-is ws ms xss f.long)
 
   -- the same, of listings of which no two share a node
   pub audit-accepts-apart : (xss : List (List ℕ)) → Fits ws es ms → Listed ws es xss → AllApart xss → audit_all ws es ms ≡ audited ws ms xss
@@ -131,13 +130,13 @@ module _ (ws : List ℕ) (es : List Ends) (ms : List ℕ) where
       }
 
   -- what is accepted has listings that share no node, and the marks and the numbers are theirs
-  pub audit-sound : (audit_all ws es ms).result.answer ≡ Done → Sound
+  pub audit-sound : (audit_all ws es ms).result.answer ≡ Ok None → Sound
   audit-sound d = go view
     where
       go : View → Sound
-      go (size f p) = absurd (let z : 1 ≡ 0 = other Done _ d p in omega arith)
-      go (ends f k h p) = absurd (let z : 4 ≡ 0 = other Done _ d p in omega arith)
-      go (fault f h k w p) = absurd (let z : 10 ≡ 0 = other Done _ d p in omega arith)
+      go (size f p) = absurd (let z : 1 ≡ 0 = other (Ok None) _ d p in omega arith)
+      go (ends f k h p) = absurd (let z : 4 ≡ 0 = other (Ok None) _ d p in omega arith)
+      go (fault f h k w p) = absurd (let z : 10 ≡ 0 = other (Ok None) _ d p in omega arith)
       go (done f w p) = sound f w
 
   -- ---- refused 4
@@ -153,7 +152,7 @@ module _ (ws : List ℕ) (es : List Ends) (ms : List ℕ) where
     pub comes : audit_all ws es ms ≡ marking ms (refused_at EndsDoNotHold (length before))
 
   -- the ends of every lower list hold, and those of the list that is named do not
-  pub audit-lowest-4 : (audit_all ws es ms).result.answer ≡ Refused EndsDoNotHold → Lowest4
+  pub audit-lowest-4 : (audit_all ws es ms).result.answer ≡ Err EndsDoNotHold → Lowest4
   audit-lowest-4 d = go view
     where
       made : audit_fits ws es ms ≡ true → (k : ℕ) → audit_all ws es ms ≡ marking ms (refused_at EndsDoNotHold k) → Unheld ws 0 es k → Lowest4
@@ -171,10 +170,10 @@ module _ (ws : List ℕ) (es : List Ends) (ms : List ℕ) where
           }
 
       go : View → Lowest4
-      go (size f p) = absurd (let z : 1 ≡ 4 = other (Refused EndsDoNotHold) _ d p in omega arith)
+      go (size f p) = absurd (let z : 1 ≡ 4 = other (Err EndsDoNotHold) _ d p in omega arith)
       go (ends f k h p) = made f k p (list-unheld ws 0 es k h)
-      go (fault f h k w p) = absurd (let z : 10 ≡ 4 = other (Refused EndsDoNotHold) _ d p in omega arith)
-      go (done f w p) = absurd (let z : 0 ≡ 4 = other (Refused EndsDoNotHold) _ d p in omega arith)
+      go (fault f h k w p) = absurd (let z : 10 ≡ 4 = other (Err EndsDoNotHold) _ d p in omega arith)
+      go (done f w p) = absurd (let z : 0 ≡ 4 = other (Err EndsDoNotHold) _ d p in omega arith)
 
   -- ---- refused 10
 
@@ -192,7 +191,7 @@ module _ (ws : List ℕ) (es : List Ends) (ms : List ℕ) where
     pub comes : audit_all ws es ms ≡ marking (unmarked ms) (refused_at NoListing (length before))
 
   -- the lower lists have listings that share no node, and the list that is named has none that shares no node with them
-  pub audit-lowest-10 : (audit_all ws es ms).result.answer ≡ Refused NoListing → Lowest10
+  pub audit-lowest-10 : (audit_all ws es ms).result.answer ≡ Err NoListing → Lowest10
   audit-lowest-10 d = go view
     where
       made : audit_fits ws es ms ≡ true → lowest_unheld ws 0 es ≡ none → (k : ℕ) → audit_all ws es ms ≡ marking (unmarked ms) (refused_at NoListing k)
@@ -214,12 +213,12 @@ module _ (ws : List ℕ) (es : List Ends) (ms : List ℕ) where
           }
 
       go : View → Lowest10
-      go (size f p) = absurd (let z : 1 ≡ 10 = other (Refused NoListing) _ d p in omega arith)
-      go (ends f k h p) = absurd (let z : 4 ≡ 10 = other (Refused NoListing) _ d p in omega arith)
+      go (size f p) = absurd (let z : 1 ≡ 10 = other (Err NoListing) _ d p in omega arith)
+      go (ends f k h p) = absurd (let z : 4 ≡ 10 = other (Err NoListing) _ d p in omega arith)
       go (fault f h k w p) =
           let s = fits ws es ms f in
           made f h k p (walks-lowest ws 0 es (unmarked ms) k s.pool (length-replicate {A = ℕ} (length ms) 0 ∙ s.long) w)
-      go (done f w p) = absurd (let z : 0 ≡ 10 = other (Refused NoListing) _ d p in omega arith)
+      go (done f w p) = absurd (let z : 0 ≡ 10 = other (Err NoListing) _ d p in omega arith)
 
 -- ---- and the other way round: such a directory is refused so
 

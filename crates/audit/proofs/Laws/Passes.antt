@@ -1,13 +1,13 @@
--- The steps of the audit's code come to the audit. Assumes nothing.
-use Rattle.std.proofs.Common.{◌≡◌, ℕ, ◌+◌, ◌<◌, ◌≤◌, Bool, true, false, cond, leb, List, [], ◌∷◌, length, sym, refl, ap, ◌∙◌, ⊎_elim, arith, leb-true}
+-- The passes over the lists of a directory, and what they make of the audit. Assumes nothing.
+use Rattle.std.proofs.Common.{◌≡◌, ℕ, ◌+◌, ◌<◌, ◌≤◌, Bool, true, false, cond, leb, List, [], ◌∷◌, length, get_or, drop, sym, refl, ap, ◌∙◌, ⊎_elim, add-one, drop-cons, leb-true}
+use Rattle.std.specs.Prelude.{Result, Ok, Err}
+use Rattle.std.proofs.lemmas.List.{drop_all}
 use lib.ListN.{length-replicate}
 use Rattle.words.proofs.Laws.Cases.{true-or-false, both}
 use Rattle.words.specs.Names.{directory_limit, directory_fits}
-use Rattle.answers.specs.declared.Refusal.{Refusal}
 use Rattle.answers.specs.declared.Refusal.TheVariants.{Size, EndsDoNotHold, NoListing}
-use Rattle.answers.specs.declared.Answer.TheVariants.{Done, Refused}
 use Rattle.ends.specs.declared.Ends.{Ends}
-use Rattle.answers.specs.Answer.{is_refused}
+use Rattle.ends.specs.Ends.{empty_ends}
 use Rattle.ends.specs.Tests.{ends_hold}
 use Rattle.walk.specs.Marks.{unmarked, sizes_fit, Marking, marking}
 use Rattle.walk.specs.declared.step.Stood.{Stood}
@@ -16,10 +16,10 @@ use Rattle.walk.specs.Calls.{stood, can_walk, walk_list}
 use Rattle.walk.proofs.Laws.Marks.{paint-length}
 use Rattle.walk.proofs.Laws.Calls.{sizes, sizes-fit, list-refused, list-walks}
 use Rattle.audit.specs.declared.Audited.{Audited}
-use Rattle.audit.specs.declared.Progress.{Progress}
+use Rattle.audit.specs.declared.count.Counted.{Counted}
+use Rattle.audit.specs.declared.Fault.{Fault}
 use Rattle.audit.specs.Audit.{audit_fits, Lowest, none, list, lowest_unheld, walks_of, refused_at, after_walks, after_ends, audit_all}
-use Rattle.audit.specs.Steps.{counted_of, begun_of, next_list, judged_of, list_step_of, pass_of, to_walks, concluded_of}
-use Rattle.audit.proofs.Laws.Steps.{list-step-refused, list-step-walks, list-step-tests}
+use Rattle.audit.specs.Steps.{counted_of, unless_at, unmarked_at, and_counted, after_test, counted_steps, reported}
 
 -- ---- marks stay one a node
 
@@ -66,183 +66,114 @@ walks-length ws k (e ∷ es) ms =
     stop : (walk_list ws ms e (k + 1)).result.ok ≡ false → length (walks_of ws k (e ∷ es) ms).marks ≡ length ms
     stop o = ap (λ (x : Marking Lowest). length x.marks) (walks-stop ws k e es ms o) ∙ list_length ws ms e (k + 1)
 
--- ---- a pass
+-- ---- a pass over the lists, which has come to list i with the ends e
 
--- before list k
-abbrev pub going : Bool → ℕ → Progress
-going w k = record { answer = Done; list = k; walking = w }
+module _ (ws : List ℕ) (es : List Ends) (i : ℕ) (e : Ends) (is : e ≡ get_or es i empty_ends) (h : i < length es) where
+  split : drop i es ≡ e ∷ drop (i + 1) es
+  split = rw (is, add-one i) (drop-cons es i empty_ends h)
 
--- where a pass comes to: past the last list, or refused at one
-abbrev pub reached : Refusal → Bool → ℕ → Lowest → Progress
-reached r w n none = going w n
-reached r w n (list k) = record { answer = Refused r; list = k; walking = w }
+  pub test-next : ends_hold ws e ≡ true → lowest_unheld ws i (drop i es) ≡ lowest_unheld ws (i + 1) (drop (i + 1) es)
+  test-next o = ap (lowest_unheld ws i) split ∙ held_on ws i e (drop (i + 1) es) [] o
 
-next-list : (k : ℕ) → k < 255 → next_list k ≡ k + 1
-unfolding next_list
-next-list k h = omega arith
+  pub test-stop : ends_hold ws e ≡ false → lowest_unheld ws i (drop i es) ≡ list i
+  test-stop o = ap (lowest_unheld ws i) split ∙ held-stop ws i e (drop (i + 1) es) [] o
 
-judged-on : (w : Bool) (k : ℕ) (r : Refusal) → k < 255 → judged_of (going w k) true r ≡ going w (k + 1)
-unfolding judged_of
-judged-on w k r h = ap (going w) (next-list k h)
+  module _ (ms ms' : List ℕ) (s : Stood) (w : marking ms' s ≡ walk_list ws ms e (i + 1)) where
+    out : (b : Bool) → s.ok ≡ b → (walk_list ws ms e (i + 1)).result.ok ≡ b
+    out b o = ap (λ (x : Marking Stood). x.result.ok) (sym w) ∙ o
 
-judged-off : (w : Bool) (k : ℕ) (r : Refusal) → judged_of (going w k) false r ≡ reached r w 0 (list k)
-unfolding judged_of
-judged-off w k r = refl
+    pub walk-next : s.ok ≡ true → walks_of ws i (drop i es) ms ≡ walks_of ws (i + 1) (drop (i + 1) es) ms'
+    walk-next o =
+        ap (λ (l : List Ends). walks_of ws i l ms) split
+        ∙ walks-on ws i e (drop (i + 1) es) ms (out true o)
+        ∙ ap (λ (x : Marking Stood). walks_of ws (i + 1) (drop (i + 1) es) x.marks) (sym w)
 
-pass_step : (ws : List ℕ) (e : Ends) (es : List Ends) (ms : List ℕ) (s : Progress) (ms' : List ℕ) (s' : Progress)
-    → list_step_of ws ms s e ≡ marking ms' s' → pass_of ws (e ∷ es) ms s ≡ pass_of ws es ms' s'
-unfolding pass_of
-pass_step ws e es ms s ms' s' t = ap (λ (x : Marking Progress). pass_of ws es x.marks x.result) t
+    pub walk-stop : s.ok ≡ false → walks_of ws i (drop i es) ms ≡ marking ms' (list i)
+    walk-stop o =
+        ap (λ (l : List Ends). walks_of ws i l ms) split
+        ∙ walks-stop ws i e (drop (i + 1) es) ms (out false o)
+        ∙ ap (λ (x : Marking Stood). marking x.marks (list i)) (sym w)
 
--- once refused, nothing more is done
-pub pass-refused : (ws : List ℕ) (es : List Ends) (ms : List ℕ) (s : Progress) → is_refused s.answer ≡ true → pass_of ws es ms s ≡ marking ms s
-unfolding pass_of
-pass-refused ws [] ms s r = refl
-pass-refused ws (e ∷ es) ms s r = pass_step ws e es ms s ms s (list-step-refused ws ms s e r) ∙ pass-refused ws es ms s r
+-- past the last list
+module _ (ws : List ℕ) (es : List Ends) (i : ℕ) (h : length es ≤ i) where
+  pub test-done : lowest_unheld ws i (drop i es) ≡ none
+  unfolding lowest_unheld
+  test-done = ap (lowest_unheld ws i) (drop_all i es h)
 
--- the ends
-pub pass-tests : (ws : List ℕ) (k n : ℕ) (es : List Ends) (ms : List ℕ) → k + length es ≡ n → n ≤ 64
-    → pass_of ws es ms (going false k) ≡ marking ms (reached EndsDoNotHold false n (lowest_unheld ws k es))
-unfolding pass_of lowest_unheld
-pass-tests ws k n [] ms e f = let z : k ≡ n = omega arith in ap (λ (j : ℕ). marking ms (going false j)) z
-pass-tests ws k n (e ∷ es) ms c f =
-    ⊎_elim (on (pass-tests ws (k + 1) n es ms (omega arith) f)) stop (true-or-false (ends_hold ws e))
-  where
-    turn : (b : Bool) → ends_hold ws e ≡ b → list_step_of ws ms (going false k) e ≡ marking ms (judged_of (going false k) b EndsDoNotHold)
-    turn b o = list-step-tests ws ms (going false k) e refl refl ∙ ap (λ (t : Bool). marking ms (judged_of (going false k) t EndsDoNotHold)) o
+  pub walk-done : (ms : List ℕ) → walks_of ws i (drop i es) ms ≡ marking ms none
+  unfolding walks_of
+  walk-done ms = ap (λ (l : List Ends). walks_of ws i l ms) (drop_all i es h)
 
-    on : pass_of ws es ms (going false (k + 1)) ≡ marking ms (reached EndsDoNotHold false n (lowest_unheld ws (k + 1) es))
-        → ends_hold ws e ≡ true → pass_of ws (e ∷ es) ms (going false k) ≡ marking ms (reached EndsDoNotHold false n (lowest_unheld ws k (e ∷ es)))
-    on ih o =
-        pass_step ws e es ms (going false k) ms (going false (k + 1)) (turn true o ∙ ap (marking ms) (judged-on false k EndsDoNotHold (omega arith)))
-        ∙ ih
-        ∙ ap (λ (l : Lowest). marking ms (reached EndsDoNotHold false n l)) (sym (held_on ws k e es ms o))
-
-    stop : ends_hold ws e ≡ false → pass_of ws (e ∷ es) ms (going false k) ≡ marking ms (reached EndsDoNotHold false n (lowest_unheld ws k (e ∷ es)))
-    stop o =
-        let s' = reached EndsDoNotHold false n (list k) in
-        pass_step ws e es ms (going false k) ms s' (turn false o ∙ ap (marking ms) (judged-off false k EndsDoNotHold))
-        ∙ pass-refused ws es ms s' refl
-        ∙ ap (λ (l : Lowest). marking ms (reached EndsDoNotHold false n l)) (sym (held-stop ws k e es ms o))
-
--- the walks
-abbrev pub walked : ℕ → Marking Lowest → Marking Progress
-walked n w = marking w.marks (reached NoListing true n w.result)
-
-pub pass_walks : (ws : List ℕ) (k n : ℕ) (es : List Ends) (ms : List ℕ) → k + length es ≡ n → n ≤ 64
-    → pass_of ws es ms (going true k) ≡ walked n (walks_of ws k es ms)
-unfolding pass_of walks_of
-pass_walks ws k n [] ms e f = let z : k ≡ n = omega arith in ap (λ (j : ℕ). marking ms (going true j)) z
-pass_walks ws k n (e ∷ es) ms c f =
-    ⊎_elim (on (pass_walks ws (k + 1) n es (walk_list ws ms e (k + 1)).marks (omega arith) f)) stop (true-or-false (walk_list ws ms e (k + 1)).result.ok)
-  where
-    turn : (b : Bool) → (walk_list ws ms e (k + 1)).result.ok ≡ b → list_step_of ws ms (going true k) e ≡ marking (walk_list ws ms e (k + 1)).marks (judged_of (going true k) b NoListing)
-    turn b o =
-        let w = walk_list ws ms e (k + 1) in
-        list-step-walks ws ms (going true k) e refl refl w.marks w.result (k + 1) (sym (next-list k (omega arith))) refl
-        ∙ ap (λ (t : Bool). marking w.marks (judged_of (going true k) t NoListing)) o
-
-    on : pass_of ws es (walk_list ws ms e (k + 1)).marks (going true (k + 1)) ≡ walked n (walks_of ws (k + 1) es (walk_list ws ms e (k + 1)).marks)
-        → (walk_list ws ms e (k + 1)).result.ok ≡ true → pass_of ws (e ∷ es) ms (going true k) ≡ walked n (walks_of ws k (e ∷ es) ms)
-    on ih o =
-        let w = walk_list ws ms e (k + 1) in
-        pass_step ws e es ms (going true k) w.marks (going true (k + 1))
-        (turn true o ∙ ap (marking w.marks) (judged-on true k NoListing (omega arith)))
-        ∙ ih
-        ∙ ap (walked n) (sym (walks-on ws k e es ms o))
-
-    stop : (walk_list ws ms e (k + 1)).result.ok ≡ false → pass_of ws (e ∷ es) ms (going true k) ≡ walked n (walks_of ws k (e ∷ es) ms)
-    stop o =
-        let w = walk_list ws ms e (k + 1) in
-        let s' = reached NoListing true n (list k) in
-        pass_step ws e es ms (going true k) w.marks s' (turn false o ∙ ap (marking w.marks) (judged-off true k NoListing))
-        ∙ pass-refused ws es w.marks s' refl
-        ∙ ap (walked n) (sym (walks-stop ws k e es ms o))
-
--- ---- the whole
-
--- the steps one after the other
-abbrev pub walk_steps : List ℕ → List Ends → Marking Progress → Marking Audited
-walk_steps ws es t =
-    let b = to_walks t.marks t.result in
-    let w = pass_of ws es b.marks b.result in
-    concluded_of ws w.marks w.result
-
-abbrev pub steps_of : List ℕ → List Ends → List ℕ → Marking Audited
-steps_of ws es ms = walk_steps ws es (pass_of ws es ms (begun_of (length ws) (length ms) (length es)))
-
-begun-is : (ws : List ℕ) (es : List Ends) (ms : List ℕ) (b : Bool) → audit_fits ws es ms ≡ b
-    → begun_of (length ws) (length ms) (length es) ≡ cond b (going false 0) (reached Size false 0 (list 0))
-unfolding begun_of audit_fits sizes_fit
-begun-is ws es ms b h = ap (λ (t : Bool). cond t (going false 0) (reached Size false 0 (list 0))) h
-
--- refused before the walks: the marks stay
-steps-refused : (ws : List ℕ) (es : List Ends) (ms : List ℕ) (r : Refusal) (k : ℕ)
-    → walk_steps ws es (marking ms (reached r false 0 (list k))) ≡ marking ms (refused_at r k)
-unfolding to_walks concluded_of
-steps-refused ws es ms r k =
-    let s = reached r false 0 (list k) in
-    ap (λ (x : Marking Progress). concluded_of ws x.marks x.result) (pass-refused ws es ms s refl)
-
-concluded-is : (ws : List ℕ) (ms : List ℕ) (n : ℕ) (l : Lowest) → sizes_fit ws ms ≡ true
-    → concluded_of ws ms (reached NoListing true n l) ≡ after_walks ws ms l
-unfolding concluded_of counted_of
-concluded-is ws ms n none s = rw s
-concluded-is ws ms n (list k) s = refl
+-- ---- the audit, by what the passes say
 
 module _ (ws : List ℕ) (es : List Ends) (ms : List ℕ) where
-  small : audit_fits ws es ms ≡ true → (sizes_fit ws ms ≡ true) × (length es ≤ 64)
+  pub few : audit_fits ws es ms ≡ true → length es ≤ 64
   unfolding audit_fits directory_fits directory_limit
-  small h =
-      let a = both (sizes_fit ws ms) (leb (length es) 64) h in
-      (a.0, leb-true (length es) 64 a.1)
+  few h = leb-true (length es) 64 (both (sizes_fit ws ms) (leb (length es) 64) h).1
 
-  steps-walk : audit_fits ws es ms ≡ true → walk_steps ws es (marking ms (going false (length es))) ≡ after_ends ws es ms none
-  unfolding to_walks
-  steps-walk h =
-      let a = small h in
-      let z = unmarked ms in
-      let w = walks_of ws 0 es z in
-      let p : pass_of ws es z (going true 0) ≡ walked (length es) w = pass_walks ws 0 (length es) es z (omega arith) a.1 in
-      let t = sizes ws ms a.0 in
-      let long : length w.marks ≡ length ws = walks-length ws 0 es z ∙ length-replicate {A = ℕ} (length ms) 0 ∙ t.long in
-      ap (λ (x : Marking Progress). concluded_of ws x.marks x.result) p
-      ∙ concluded-is ws w.marks (length es) w.result (sizes-fit ws w.marks t.fits long)
+  sized : audit_fits ws es ms ≡ true → sizes_fit ws ms ≡ true
+  unfolding audit_fits
+  sized h = (both (sizes_fit ws ms) (directory_fits (length es)) h).0
 
-  steps-ends : audit_fits ws es ms ≡ true → (l : Lowest)
-      → walk_steps ws es (marking ms (reached EndsDoNotHold false (length es) l)) ≡ after_ends ws es ms l
-  steps-ends h none = steps-walk h
-  steps-ends h (list k) = steps-refused ws es ms EndsDoNotHold k
-
-  -- the steps come to the audit
-  pub steps-audit : steps_of ws es ms ≡ audit_all ws es ms
+  pub audit-unfit : audit_fits ws es ms ≡ false → marking ms (refused_at Size 0) ≡ audit_all ws es ms
   unfolding audit_all
-  steps-audit = go (audit_fits ws es ms) refl
-    where
-      go : (b : Bool) → audit_fits ws es ms ≡ b → steps_of ws es ms ≡ cond (audit_fits ws es ms) (after_ends ws es ms (lowest_unheld ws 0 es)) (marking ms (refused_at Size 0))
-      go true h =
-          let a = small h in
-          rw h
-          (ap (λ (s : Progress). walk_steps ws es (pass_of ws es ms s)) (begun-is ws es ms true h)
-          ∙ ap (walk_steps ws es) (pass-tests ws 0 (length es) es ms (omega arith) a.1)
-          ∙ steps-ends h (lowest_unheld ws 0 es))
-      go false h =
-          let s = reached Size false 0 (list 0) in
-          rw h
-          (ap (λ (x : Progress). walk_steps ws es (pass_of ws es ms x)) (begun-is ws es ms false h)
-          ∙ ap (walk_steps ws es) (pass-refused ws es ms s refl)
-          ∙ steps-refused ws es ms Size 0)
+  audit-unfit h = rw h
 
-  -- from what each step leaves
-  pub steps-made : (n : ℕ) → n ≡ length es → (s0 : Progress) → s0 ≡ begun_of (length ws) (length ms) n
-      → (m1 : List ℕ) (s1 : Progress) → marking m1 s1 ≡ pass_of ws es ms s0
-      → (m2 : List ℕ) (s2 : Progress) → marking m2 s2 ≡ to_walks m1 s1
-      → (m3 : List ℕ) (s3 : Progress) → marking m3 s3 ≡ pass_of ws es m2 s2
-      → (m4 : List ℕ) (r : Audited) → marking m4 r ≡ concluded_of ws m3 s3
-      → marking m4 r ≡ audit_all ws es ms
-  steps-made n en s0 e0 m1 s1 e1 m2 s2 e2 m3 s3 e3 m4 r e4 =
-      e4 ∙ ap (λ (x : Marking Progress). concluded_of ws x.marks x.result) e3
-      ∙ ap (λ (x : Marking Progress). let w = pass_of ws es x.marks x.result in concluded_of ws w.marks w.result) e2
-      ∙ ap (walk_steps ws es) e1
-      ∙ ap (λ (s : Progress). walk_steps ws es (pass_of ws es ms s)) (e0 ∙ ap (begun_of (length ws) (length ms)) en)
-      ∙ steps-audit
+  module _ (f : audit_fits ws es ms ≡ true) where
+    -- the ends of a list do not hold
+    pub audit-unheld : (e : Fault) → Err e ≡ unless_at EndsDoNotHold (lowest_unheld ws 0 es)
+        → marking ms (refused_at e.refusal e.list) ≡ audit_all ws es ms
+    unfolding audit_all
+    audit-unheld e t = rw f (go (lowest_unheld ws 0 es) t)
+      where
+        go : (l : Lowest) → Err e ≡ unless_at EndsDoNotHold l → marking ms (refused_at e.refusal e.list) ≡ after_ends ws es ms l
+        go none k = absurd (cc)
+        go (list j) k = let z : ◌≡◌ {A = Fault} e (record { refusal = EndsDoNotHold; list = j }) = cc in rw z
+
+    -- the ends of all lists hold, and the lists were walked over the marks z, which left the marks m and came out as r says
+    module _ (t : Ok tt ≡ unless_at EndsDoNotHold (lowest_unheld ws 0 es)) (z : List ℕ) (zero : z ≡ unmarked ms) (m : List ℕ) (r : Result (Unit {0}) Fault)
+        (k : marking m r ≡ marking (unmarked_at (walks_of ws 0 es z).marks (walks_of ws 0 es z).result) (unless_at NoListing (walks_of ws 0 es z).result)) where
+      held : audit_all ws es ms ≡ after_ends ws es ms none
+      unfolding audit_all
+      held = rw f (go (lowest_unheld ws 0 es) t)
+        where
+          go : (l : Lowest) → Ok tt ≡ unless_at EndsDoNotHold l → after_ends ws es ms l ≡ after_ends ws es ms none
+          go none e = refl
+          go (list j) e = absurd (cc)
+
+      pub audit-walked : marking m (reported (and_counted r (counted_of ws m))) ≡ audit_all ws es ms
+      unfolding counted_of
+      audit-walked =
+          let w = walks_of ws 0 es z in
+          let a = sizes ws ms (sized f) in
+          let long : length w.marks ≡ length ws = walks-length ws 0 es z ∙ ap length zero ∙ length-replicate {A = ℕ} (length ms) 0 ∙ a.long in
+          go w.result w.marks (sizes-fit ws w.marks a.fits long) k
+          ∙ ap (λ (x : List ℕ). let v = walks_of ws 0 es x in after_walks ws v.marks v.result) zero ∙ sym held
+        where
+          go : (l : Lowest) (ms1 : List ℕ) → sizes_fit ws ms1 ≡ true → marking m r ≡ marking (unmarked_at ms1 l) (unless_at NoListing l)
+              → marking m (reported (and_counted r (counted_of ws m))) ≡ after_walks ws ms1 l
+          go none ms1 s e =
+              ap (λ (x : Marking (Result (Unit {0}) Fault)). marking x.marks (reported (and_counted x.result (counted_of ws x.marks)))) e ∙ rw s
+          go (list j) ms1 s e =
+              ap (λ (x : Marking (Result (Unit {0}) Fault)). marking x.marks (reported (and_counted x.result (counted_of ws x.marks)))) e
+
+-- ---- the steps one after another, and what is handed back of them
+
+abbrev pub steps_of : List ℕ → List Ends → List ℕ → Marking Audited
+steps_of ws es ms = let s = counted_steps ws es ms in marking s.marks (reported s.result)
+
+-- the steps come to the audit
+pub steps-audit : (ws : List ℕ) (es : List Ends) (ms : List ℕ) → steps_of ws es ms ≡ audit_all ws es ms
+unfolding counted_steps
+steps-audit ws es ms = go (audit_fits ws es ms) refl
+  where
+    ended : audit_fits ws es ms ≡ true → (l : Lowest) → lowest_unheld ws 0 es ≡ l
+        → (let s = after_test ws es ms (unless_at EndsDoNotHold l) in marking s.marks (reported s.result)) ≡ audit_all ws es ms
+    ended f none h = audit-walked ws es ms f (sym (ap (unless_at EndsDoNotHold) h)) (unmarked ms) refl _ _ refl
+    ended f (list k) h = audit-unheld ws es ms f (record { refusal = EndsDoNotHold; list = k }) (sym (ap (unless_at EndsDoNotHold) h))
+
+    go : (b : Bool) → audit_fits ws es ms ≡ b
+        → (let s = cond b (after_test ws es ms (unless_at EndsDoNotHold (lowest_unheld ws 0 es))) (marking ms (Err (record { refusal = Size; list = 0 })))
+        in marking s.marks (reported s.result)) ≡ audit_all ws es ms
+    go true f = ended f (lowest_unheld ws 0 es) refl
+    go false f = audit-unfit ws es ms f

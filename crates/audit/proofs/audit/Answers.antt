@@ -1,8 +1,13 @@
 -- `audit` meets its contract: its steps come to the audit. Assumes nothing.
-use Rattle.std.proofs.Common.{sym, ◌∙◌}
-use Rattle.audit.proofs.Laws.Steps.{zip_length}
-use Rattle.audit.proofs.Laws.Passes.{steps-made}
+use Rattle.std.proofs.Common.{◌≡◌, ap, ◌∙◌, Result}
+use Rattle.walk.specs.Marks.{Marking, marking}
+use Rattle.audit.specs.declared.Fault.{Fault}
+use Rattle.audit.specs.declared.count.Counted.{Counted}
+use Rattle.audit.specs.Steps.{reported}
+use Rattle.audit.proofs.Laws.Passes.{steps-audit}
 use Rattle.audit.proofs.audit.Goals as goal
 
 pub returns : goal.returns
-returns c = steps-made _ _ _ _ (c.lesser-lists.ensures ∙ sym (zip_length c.args.heads.now c.args.tails.now)) _ c.begun-first.ensures _ _ c.pass-tested.ensures _ _ c.to_walks-second.ensures _ _ c.pass-walked.ensures _ _ c.concluded.ensures
+returns c =
+    ap (λ a. marking c.count_lists.new.marks a) c.report.ensures
+    ∙ ap (λ (s : Marking (Result Counted Fault)). marking s.marks (reported s.result)) c.count_lists.ensures ∙ steps-audit _ _ _

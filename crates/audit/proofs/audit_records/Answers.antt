@@ -1,7 +1,13 @@
--- `audit_records` meets its contract: the five steps, one after the other. Assumes nothing.
-use Rattle.std.proofs.Common.{refl}
-use Rattle.audit.proofs.Laws.Passes.{steps-made}
+-- `audit_records` meets its contract: its steps come to the audit. Assumes nothing.
+use Rattle.std.proofs.Common.{◌≡◌, ap, ◌∙◌, Result}
+use Rattle.walk.specs.Marks.{Marking, marking}
+use Rattle.audit.specs.declared.Fault.{Fault}
+use Rattle.audit.specs.declared.count.Counted.{Counted}
+use Rattle.audit.specs.Steps.{reported}
+use Rattle.audit.proofs.Laws.Passes.{steps-audit}
 use Rattle.audit.proofs.audit_records.Goals as goal
 
 pub returns : goal.returns
-returns c = steps-made c.args.words.now c.args.dir.now c.args.marks.now _ refl _ c.begun-s.ensures _ _ c.pass_records-s.ensures _ _ c.to_walks-s.ensures _ _ c.pass_records-s-2.ensures _ _ c.concluded.ensures
+returns c =
+    ap (λ a. marking c.count_lists.new.marks a) c.report.ensures
+    ∙ ap (λ (s : Marking (Result Counted Fault)). marking s.marks (reported s.result)) c.count_lists.ensures ∙ steps-audit _ _ _

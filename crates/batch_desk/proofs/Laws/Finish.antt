@@ -5,7 +5,8 @@ use mathlib.Core.List.{List, [], ◌∷◌}
 use borrow.Author.Tests.{eq-eqb, ne_eqb}
 use Rattle.desk.specs.Step.{DeskStepped}
 use Rattle.lines.specs.declared.line.Line.{Line}
-use Rattle.lines.specs.declared.line.Parsed.{Parsed}
+use Rattle.lines.specs.declared.line.Order.{Order}
+use Rattle.std.specs.Prelude.{Option}
 use Rattle.lines.specs.Lines.{fresh, parsed}
 use Rattle.lines.proofs.Laws.Tested.{tested-parsed}
 use Rattle.batch_desk.specs.Step.{batch_step}
@@ -15,7 +16,7 @@ use Rattle.batch_desk.specs.Run.{Running, running, ended, run_from, finish_of}
 use Rattle.batch_desk.proofs.Laws.Step.{tested-first}
 
 -- a line that is run and answered, by the calls that do it: it was read, so it was tested for 11
-pub ended_is : (s : Running) (l : Line) (out : List ℕ) (p : Parsed) (d : DeskStepped) (w : ℕ) → p ≡ parsed s.line → d ≡ batch_tested s.kept.desk p
+pub ended_is : (s : Running) (l : Line) (out : List ℕ) (p : Option Order) (d : DeskStepped) (w : ℕ) → p ≡ parsed s.line → d ≡ batch_tested s.kept.desk p
     → placing out w ≡ placed_at s.out s.wrote d.reply → l ≡ fresh → running out d l w ≡ ended s
 unfolding ended
 ended_is s l out p d w hp hd ho hl =

@@ -12,7 +12,8 @@ use Rattle.lines.specs.declared.line.Line.{Line}
 use Rattle.lines.specs.Lines.{line_of, fresh, fed, fed_all, parsed}
 use Rattle.lines.specs.Inputs.{lines_from, lines_of}
 use Rattle.lines.specs.Answers.{answer_line}
-use Rattle.lines.specs.declared.line.Parsed.{Parsed}
+use Rattle.lines.specs.declared.line.Order.{Order}
+use Rattle.std.specs.Prelude.{Option}
 use Rattle.lines.proofs.Laws.Lines.{fed-says}
 use Rattle.desk.specs.Step.{DeskStepped}
 use Rattle.history.specs.Runs.{answer_all}
@@ -191,7 +192,7 @@ last-answers : (line : List ℕ) (d : DeskStepped) → said_all (said d (fed_all
 unfolding said fed_all bytes_of_all answer_all batch_step
 last-answers [] d = rw lines_none
 last-answers (b ∷ bs) d =
-    let told : Parsed → List ℕ = λ p. bytes_of (batch_step d.desk p).reply in
+    let told : Option Order → List ℕ = λ p. bytes_of (batch_step d.desk p).reply in
     rw (lines-last b bs, ne_eqb (fed_all (fed fresh b) bs).count 0 (all-counts bs (fed fresh b) (fed-counts fresh b)))
     (ap told (fed-says (b ∷ bs)) ∙ sym (append-nil (told (line_of (b ∷ bs)))))
 

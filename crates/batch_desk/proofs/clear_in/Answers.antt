@@ -7,4 +7,4 @@ use Rattle.batch_desk.proofs.clear_in.Goals as goal
 
 pub returns : goal.returns
 unfolding no_marks
-returns c = (ap unmarking c.clear.ensures, search rules)
+returns c = ap unmarking c.clear.ensures

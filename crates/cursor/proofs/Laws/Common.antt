@@ -25,9 +25,9 @@ use Rattle.words.proofs.Laws.Chain.{last_of, back_last}
 use Rattle.words.proofs.Laws.Outside.{Outside, listing-outside, unlinked-word, marks-agree}
 use Rattle.answers.specs.declared.Refusal.{Refusal}
 use Rattle.answers.specs.declared.Refusal.TheVariants.{NoSuchNode, AlreadyLinked}
-use Rattle.answers.specs.declared.Answer.TheVariants.{Done, Refused}
+use Rattle.std.specs.Prelude.{Err}
 use Rattle.ends.specs.declared.Ends.{Ends}
-use Rattle.answers.specs.Answer.{need}
+use Rattle.answers.specs.Answer.{Answer, passed, need}
 use Rattle.ends.proofs.Laws.Holds.{name-null}
 use Rattle.cursor.specs.declared.Cursor.{Cursor}
 use Rattle.cursor.specs.declared.Edited.{Edited}
@@ -49,13 +49,13 @@ naming-in n i f h = let k = fits-small n f in rw (lt-ltb (name i.0) (2 ^ 32) (om
 
 -- on a sound list only 7 is left of the tests of a call that takes a node
 pub sound-node-test : (ws : List ℕ) (e : Ends) (c : Cursor) (z : Place) (i : Node) → pool_fits (length ws) ≡ true → Sound ws e c z
-    → node_test ws e c i ≡ need (ltb i.0 (length ws)) NoSuchNode Done
+    → node_test ws e c i ≡ need (ltb i.0 (length ws)) NoSuchNode passed
 unfolding node_test
 sound-node-test ws e c z i f s = rw (sound-test ws e c z f s)
 
 -- a call that is refused leaves everything
 pub refused-does : (ws : List ℕ) (e : Ends) (c : Cursor) (z : Place) → Sound ws e c z → (o : Outcome Edited) (d : Plain)
-    → (a : Rattle.answers.specs.declared.Answer.Answer) → o ≡ outcome ws (edited a e c) → d ≡ plain a z (linked_in ws) → Does ws z o d
+    → (a : Answer) → o ≡ outcome ws (edited a e c) → d ≡ plain a z (linked_in ws) → Does ws z o d
 refused-does ws e c z s o d a p q =
     rw (p, q) (record { answer = refl; sound = s; marks = λ j. refl; alone = same-alone ws (nodes z) (nodes z) })
 
@@ -65,15 +65,15 @@ linked-at : (ws : List ℕ) (i : ℕ) → linked_at ws (name i) ≡ linked_in ws
 unfolding linked_at
 linked-at ws i = ap is_linked (word-name ws i)
 
-pub acquire-refused : (ws : List ℕ) (r : Refusal) (new : Name) → acquire_node ws (Refused r) new ≡ outcome ws (Refused r)
+pub acquire-refused : (ws : List ℕ) (r : Refusal) (new : Name) → acquire_node {A = Unit} ws (Err r) new ≡ outcome ws (Err r)
 unfolding acquire_node
 acquire-refused ws r new = refl
 
-pub acquire-linked : (ws : List ℕ) (i : ℕ) → linked_in ws i ≡ true → acquire_node ws Done (named i) ≡ outcome ws (Refused AlreadyLinked)
+pub acquire-linked : (ws : List ℕ) (i : ℕ) → linked_in ws i ≡ true → acquire_node ws passed (named i) ≡ outcome ws (Err AlreadyLinked)
 unfolding acquire_node acquire_link
 acquire-linked ws i h = rw (linked-at ws i, h)
 
-pub acquire-free : (ws : List ℕ) (i : ℕ) → linked_in ws i ≡ false → acquire_node ws Done (named i) ≡ outcome (put_at ws (name i) 0) Done
+pub acquire-free : (ws : List ℕ) (i : ℕ) → linked_in ws i ≡ false → acquire_node ws passed (named i) ≡ outcome (put_at ws (name i) 0) passed
 unfolding acquire_node acquire_link
 acquire-free ws i h = rw (linked-at ws i, h)
 

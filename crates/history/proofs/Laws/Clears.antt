@@ -9,7 +9,7 @@ use lib.ListN.{length, get_or}
 use borrow.Author.Tests.{ltb-true, ltb-false}
 use Rattle.words.specs.Names.{pool_fits, is_linked}
 use Rattle.words.specs.Pool.{outcome}
-use Rattle.answers.specs.declared.Answer.TheVariants.{Done}
+use Rattle.answers.specs.Answer.{done}
 use Rattle.ends.specs.Ends.{empty_ends}
 use Rattle.cursor.specs.Cursor.{null_cursor}
 use Rattle.cursor.specs.Plain.{at_null, nodes}
@@ -39,7 +39,7 @@ module _ (n : ℕ) (d : Desk) (h : History) (g : Agrees n d h) (f : pool_fits n 
 
   pub clear-is : (ms : List ℕ) → length ms ≡ n
       → clearing d.words ms (row_at d l) (row_at d m)
-      ≡ outcome cleared (marking (paint (unmarked ms) 1 xs) (worked Done (row empty_ends (null_cursor empty_ends)) (row_at d m)))
+      ≡ outcome cleared (marking (paint (unmarked ms) 1 xs) (worked done (row empty_ends (null_cursor empty_ends)) (row_at d m)))
   unfolding clearing
   clear-is ms long =
       rw (clear-listing d.words ms (row_at d l).ends xs (rw g.long f) (long ∙ sym g.long) (g.sound l a).listing)

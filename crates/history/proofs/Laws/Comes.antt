@@ -7,11 +7,11 @@ use mathlib.Core.List.{List, [], ◌++◌}
 use Prim.Native.Nat.{ℕ, ◌+◌, ◌<◌, ◌≤◌}
 use native.Mathlib.Omega.{arith}
 use lib.ListN.{length, get_or}
+use Rattle.std.specs.Prelude.{is_err}
 use Rattle.words.specs.Pool.{Outcome, outcome}
 use Rattle.words.specs.Changes.{AtMostFour}
 use Rattle.words.proofs.Laws.Pool.{few-none}
-use Rattle.answers.specs.declared.Answer.{Answer}
-use Rattle.answers.specs.Answer.{is_refused}
+use Rattle.answers.specs.Answer.{Answer}
 use Rattle.cursor.specs.declared.Edited.{Edited}
 use Rattle.cursor.specs.declared.EditedTwo.{EditedTwo}
 use Rattle.cursor.specs.Cursor.{null_cursor}
@@ -20,7 +20,7 @@ use Rattle.cursor.proofs.Laws.Alone.{same-alone}
 use Rattle.cursor.specs.Does.{Plain, Does, linked_in}
 use Rattle.splice.specs.Plain.{PlainTwo, DoesTwo}
 use Rattle.splice.proofs.Laws.Refused.{UnchangedTwo}
-use Rattle.list.specs.declared.ListEdited.{ListEdited}
+use Rattle.ends.specs.declared.ListEdited.{ListEdited}
 use Rattle.list.specs.Plain.{PlainList, DoesList}
 use Rattle.list.proofs.Laws.Pushes.{sound-null}
 use Rattle.list.proofs.Laws.Refused.{UnchangedList}
@@ -150,12 +150,12 @@ module _ (n : ℕ) (d : Desk) (h : History) (g : Agrees n d h) (l m : ℕ) (a : 
       → (p.answer ≡ q.answer) × (p.nodes ≡ q.nodes) → Counted n (after_one (at_null p.nodes) h.stranded) p.linked
       → AtMostFour d.words o.words → Comes (with (λ r. on_list r named other) o) (on_sequence q here there h.stranded)
   unfolding on_list on_sequence
-  on-list o p q k u e c f = go (is_refused o.result.answer) refl
+  on-list o p q k u e c f = go (is_err o.result.answer) refl
     where
-      same : is_refused o.result.answer ≡ is_refused q.answer
-      same = ap is_refused (k.answer ∙ e.0)
+      same : is_err o.result.answer ≡ is_err q.answer
+      same = ap is_err (k.answer ∙ e.0)
 
-      go : (v : Bool) → is_refused o.result.answer ≡ v → Comes (with (λ r. on_list r named other) o) (on_sequence q here there h.stranded)
+      go : (v : Bool) → is_err o.result.answer ≡ v → Comes (with (λ r. on_list r named other) o) (on_sequence q here there h.stranded)
       go true v =
           rw (u v, sym same ∙ v, v, ← e.0, ← k.answer) (stays o.result.answer)
       go false v =
@@ -181,14 +181,14 @@ module _ (n : ℕ) (d : Desk) (h : History) (g : Agrees n d h) (l m : ℕ) (a : 
 
     pub on-both : (o : Outcome EditedTwo) (p : PlainTwo) → DoesTwo d.words here (nodes there) o p
         → UnchangedTwo d.words named.ends named.cursor other.ends o
-        → ((x : ℕ) → is_refused p.answer ≡ false → times x (nodes p.place) + times x p.other ≡ times x (nodes here) + times x (nodes there))
-        → (is_refused p.answer ≡ true → p.place ≡ here)
+        → ((x : ℕ) → is_err p.answer ≡ false → times x (nodes p.place) + times x p.other ≡ times x (nodes here) + times x (nodes there))
+        → (is_err p.answer ≡ true → p.place ≡ here)
         → AtMostFour d.words o.words → Comes (with (λ r. on_both r other) o) (on_two p there h.stranded)
     unfolding on_both on_two
-    on-both o p k u c z f = go (is_refused o.result.answer) refl
+    on-both o p k u c z f = go (is_err o.result.answer) refl
       where
-        same : is_refused o.result.answer ≡ is_refused p.answer
-        same = ap is_refused k.answer
+        same : is_err o.result.answer ≡ is_err p.answer
+        same = ap is_err k.answer
 
         off-two : (x : ℕ) → 0 < times x h.stranded → times x (nodes here ++ nodes there) ≡ 0
         off-two x s = rw (times-append x (nodes here) (nodes there), off-here x s, off-there x s)
@@ -197,7 +197,7 @@ module _ (n : ℕ) (d : Desk) (h : History) (g : Agrees n d h) (l m : ℕ) (a : 
             → times x (nodes p.place ++ p.other) ≡ 0
         off-moved x s e = times-append x (nodes p.place) p.other ∙ e ∙ rw (off-here x s, off-there x s)
 
-        go : (v : Bool) → is_refused o.result.answer ≡ v → Comes (with (λ r. on_both r other) o) (on_two p there h.stranded)
+        go : (v : Bool) → is_err o.result.answer ≡ v → Comes (with (λ r. on_both r other) o) (on_two p there h.stranded)
         go true v =
             rw (u v, sym same ∙ v, v, z (sym same ∙ v), ← k.answer) (stays o.result.answer)
         go false v =

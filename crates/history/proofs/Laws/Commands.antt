@@ -10,10 +10,10 @@ use Rattle.words.specs.declared.names.Node.{Node}
 use Rattle.words.specs.Names.{pool_fits}
 use Rattle.words.specs.Pool.{Outcome, outcome}
 use Rattle.words.specs.Listing.{Listing}
-use Rattle.answers.specs.declared.Answer.TheVariants.{Done}
+use Rattle.answers.specs.Answer.{done}
 use Rattle.ends.specs.Ends.{empty_ends, turned}
 use Rattle.cursor.specs.Cursor.{null_cursor}
-use Rattle.cursor.specs.Plain.{Place, at, at_null, nodes, next_place, prev_place, Sound}
+use Rattle.cursor.specs.Plain.{Place, at_null, nodes, next_place, prev_place, Sound}
 use Rattle.moves.specs.Moves.{move_next, move_prev, moved_next, moved_prev}
 use Rattle.moves.proofs.Laws.Moves.{move-next-does, move-prev-does}
 use Rattle.cursor.proofs.Laws.Sound.{sound-ends-test}
@@ -120,46 +120,46 @@ module _ (n : ℕ) (d : Desk) (h : History) (g : Agrees n d h) (f : pool_fits n 
 
   -- ---- moves
 
-  pub next : does (outcome ws (at_cursor (move_next ws (row_at d l).ends (row_at d l).cursor) (row_at d m))) (plain_worked Done (next_place z) y h.stranded)
+  pub next : does (outcome ws (at_cursor (move_next ws (row_at d l).ends (row_at d l).cursor) (row_at d m))) (plain_worked done (next_place z) y h.stranded)
   unfolding at_cursor
   next =
       let k = move-next-does ws (row_at d l).ends (row_at d l).cursor z fits sound in
       rw k.0
-      (still n d h g l m a b Done (row (row_at d l).ends (moved_next ws (row_at d l).ends (row_at d l).cursor)) (next_place z) h.stranded k.1
+      (still n d h g l m a b done (row (row_at d l).ends (moved_next ws (row_at d l).ends (row_at d l).cursor)) (next_place z) h.stranded k.1
       (λ x. ap (λ (v : ℕ). v + times x h.stranded) (times-next x z)))
 
-  pub prev : does (outcome ws (at_cursor (move_prev ws (row_at d l).ends (row_at d l).cursor) (row_at d m))) (plain_worked Done (prev_place z) y h.stranded)
+  pub prev : does (outcome ws (at_cursor (move_prev ws (row_at d l).ends (row_at d l).cursor) (row_at d m))) (plain_worked done (prev_place z) y h.stranded)
   unfolding at_cursor
   prev =
       let k = move-prev-does ws (row_at d l).ends (row_at d l).cursor z fits sound in
       rw k.0
-      (still n d h g l m a b Done (row (row_at d l).ends (moved_prev ws (row_at d l).ends (row_at d l).cursor)) (prev_place z) h.stranded k.1
+      (still n d h g l m a b done (row (row_at d l).ends (moved_prev ws (row_at d l).ends (row_at d l).cursor)) (prev_place z) h.stranded k.1
       (λ x. ap (λ (v : ℕ). v + times x h.stranded) (times-prev x z)))
 
   -- ---- the list as a whole, its words staying
 
-  pub reverses : does (outcome ws (on_list (reversed ws (row_at d l).ends) (row_at d l) (row_at d m))) (plain_worked Done (at_null (reverse (nodes z))) y h.stranded)
+  pub reverses : does (outcome ws (on_list (reversed ws (row_at d l).ends) (row_at d l) (row_at d m))) (plain_worked done (at_null (reverse (nodes z))) y h.stranded)
   unfolding on_list
   reverses =
       let k = reverse-does ws (row_at d l).ends (nodes z) fits listing in
       rw k.0
-      (still n d h g l m a b Done (row (turned (row_at d l).ends) (null_cursor (turned (row_at d l).ends))) (at_null (reverse (nodes z))) h.stranded
+      (still n d h g l m a b done (row (turned (row_at d l).ends) (null_cursor (turned (row_at d l).ends))) (at_null (reverse (nodes z))) h.stranded
       (sound-null ws (turned (row_at d l).ends) (reverse (nodes z)) k.1)
       (λ x. ap (λ (v : ℕ). v + times x h.stranded) (times-reverse x (nodes z))))
 
-  pub fast-clears : does (outcome ws (on_list (fast_clear ws (row_at d l).ends) (row_at d l) (row_at d m))) (plain_worked Done (at_null []) y (nodes z ++ h.stranded))
+  pub fast-clears : does (outcome ws (on_list (fast_clear ws (row_at d l).ends) (row_at d l) (row_at d m))) (plain_worked done (at_null []) y (nodes z ++ h.stranded))
   unfolding on_list times
   fast-clears =
       let k = fast-clear-does ws (row_at d l).ends (nodes z) fits listing in
       rw k.0
-      (still n d h g l m a b Done (row empty_ends (null_cursor empty_ends)) (at_null []) (nodes z ++ h.stranded) (empty-sound ws)
+      (still n d h g l m a b done (row empty_ends (null_cursor empty_ends)) (at_null []) (nodes z ++ h.stranded) (empty-sound ws)
       (λ x. let e : times x (nodes z ++ h.stranded) ≡ times x (nodes z) + times x h.stranded = times-append x (nodes z) h.stranded in omega arith))
 
-  pub nulls : does (outcome ws (to_null ws (row_at d l) (row_at d m))) (plain_worked Done (at_null (nodes z)) y h.stranded)
+  pub nulls : does (outcome ws (to_null ws (row_at d l) (row_at d m))) (plain_worked done (at_null (nodes z)) y h.stranded)
   unfolding to_null
   nulls =
       rw (sound-ends-test ws (row_at d l).ends (nodes z) fits listing)
-      (still n d h g l m a b Done (row (row_at d l).ends (null_cursor (row_at d l).ends)) (at_null (nodes z)) h.stranded
+      (still n d h g l m a b done (row (row_at d l).ends (null_cursor (row_at d l).ends)) (at_null (nodes z)) h.stranded
       (sound-null ws (row_at d l).ends (nodes z) listing) (λ x. refl))
 
   -- ---- pushes and pops

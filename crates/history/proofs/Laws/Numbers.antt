@@ -5,18 +5,15 @@ use mathlib.Core.List.{List, [], ◌∷◌}
 use Prim.Native.Nat.{ℕ}
 use lib.Dec.{eqb, ltb}
 use lib.ListN.{length}
+use Rattle.std.specs.Prelude.{Err, None, Option, Some}
 use Rattle.answers.specs.declared.Refusal.TheVariants.{NoSuchNode, AtNull}
-use Rattle.answers.specs.declared.Answer.{Answer}
-use Rattle.answers.specs.declared.Answer.TheVariants.{Refused}
-use Rattle.answers.specs.Answer.{answer_number, need}
+use Rattle.answers.specs.Answer.{answer_number, need, Answer}
 use Rattle.cursor.specs.Plain.{Place, at, at_null, nodes, next_place, prev_place}
 use Rattle.insert.specs.Plain.{plain_insert_after, plain_insert_before}
 use Rattle.remove.specs.Plain.{plain_remove, plain_replace}
 use Rattle.splice.specs.Plain.{plain_splice_after, plain_splice_before}
 use Rattle.split.specs.Plain.{plain_split_after, plain_split_before}
 use Rattle.lines.specs.declared.line.Order.{Order}
-use Rattle.lines.specs.declared.line.Parsed.{Parsed}
-use Rattle.lines.specs.declared.line.Parsed.TheVariants.{Right, Malformed as Wrong}
 use Rattle.lines.specs.Lines.{same_list, tested}
 use Rattle.desk.specs.Reply.{reply_unread}
 use Rattle.history.specs.History.{History, PlainWorked, PlainStepped, is_none, is_held, place_at, at_place, on_sequence, on_two, plain_take, plain_by_code, plain_command, plain_reply_to, plain_put_back, plain_step_tested, plain_step}
@@ -59,7 +56,7 @@ own-replace n f i (at L x R) = go (ltb i n) refl (f i) refl
     go false p b q = rw p
 own-replace n f i (at_null xs) = go (ltb i n)
   where
-    go : (a : Bool) → Own (need a NoSuchNode (Refused AtNull))
+    go : (a : Bool) → Own (need a NoSuchNode (Err AtNull))
     go true = refl
     go false = refl
 
@@ -130,12 +127,12 @@ choose : (c : Bool) (t t' : PlainStepped) → never_answered t.reply.number ≡ 
 choose true t t' p q = p
 choose false t t' p q = q
 
-tested-answered : (n : ℕ) (h : History) (p : Parsed) → never_answered (plain_step_tested n h p).reply.number ≡ false
+tested-answered : (n : ℕ) (h : History) (p : Option Order) → never_answered (plain_step_tested n h p).reply.number ≡ false
 unfolding never_answered reply_unread plain_put_back plain_reply_to
-tested-answered n h Wrong = refl
-tested-answered n h (Right o) =
+tested-answered n h None = refl
+tested-answered n h (Some o) =
     choose (eqb o.code 20) _ _ refl
     (choose (ltb o.list (length h.places) && ltb o.other (length h.places)) _ _ (own-command n h o (place_at h o.list) (place_at h o.other)) refl)
 
-pub never-answered : (n : ℕ) (h : History) (p : Parsed) → never_answered (plain_step n h p).reply.number ≡ false
+pub never-answered : (n : ℕ) (h : History) (p : Option Order) → never_answered (plain_step n h p).reply.number ≡ false
 never-answered n h p = tested-answered n h (tested p)

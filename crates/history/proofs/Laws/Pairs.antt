@@ -9,13 +9,13 @@ use lib.Bits.{bit_xor}
 use lib.Dec.{eqb}
 use lib.ListN.{length}
 use borrow.Author.Tests.{eqb-true}
+use Rattle.std.specs.Prelude.{Err, is_err}
 use Rattle.words.specs.declared.names.Node.{Node}
 use Rattle.words.specs.Names.{pool_fits}
 use Rattle.words.specs.Pool.{Outcome, outcome}
 use Rattle.words.specs.Listing.{Listing}
 use Rattle.answers.specs.declared.Refusal.TheVariants.{NotEmpty, Malformed}
-use Rattle.answers.specs.declared.Answer.TheVariants.{Done, Refused}
-use Rattle.answers.specs.Answer.{is_refused}
+use Rattle.answers.specs.Answer.{done}
 use Rattle.ends.specs.Ends.{empty_ends}
 use Rattle.answers.proofs.Laws.Ladder.{not-both}
 use Rattle.cursor.specs.Cursor.{null_cursor}
@@ -89,21 +89,21 @@ split-before-times x (y ∷ ys) (at L v R) = refl
 split-before-times x (y ∷ ys) (at_null xs) = refl
 
 -- refused, the place stays
-splice-after-stays : (ys : List ℕ) (z : Place) → is_refused (plain_splice_after ys z).answer ≡ true → (plain_splice_after ys z).place ≡ z
+splice-after-stays : (ys : List ℕ) (z : Place) → is_err (plain_splice_after ys z).answer ≡ true → (plain_splice_after ys z).place ≡ z
 splice-after-stays ys (at L v R) e = absurd (not-both (sym e))
 splice-after-stays ys (at_null xs) e = absurd (not-both (sym e))
 
-splice-before-stays : (ys : List ℕ) (z : Place) → is_refused (plain_splice_before ys z).answer ≡ true → (plain_splice_before ys z).place ≡ z
+splice-before-stays : (ys : List ℕ) (z : Place) → is_err (plain_splice_before ys z).answer ≡ true → (plain_splice_before ys z).place ≡ z
 splice-before-stays ys (at L v R) e = absurd (not-both (sym e))
 splice-before-stays ys (at_null xs) e = absurd (not-both (sym e))
 
-split-after-stays : (ys : List ℕ) (z : Place) → is_refused (plain_split_after ys z).answer ≡ true → (plain_split_after ys z).place ≡ z
+split-after-stays : (ys : List ℕ) (z : Place) → is_err (plain_split_after ys z).answer ≡ true → (plain_split_after ys z).place ≡ z
 split-after-stays [] (at L v R) e = absurd (not-both (sym e))
 split-after-stays [] (at_null xs) e = absurd (not-both (sym e))
 split-after-stays (y ∷ ys) (at L v R) e = refl
 split-after-stays (y ∷ ys) (at_null xs) e = refl
 
-split-before-stays : (ys : List ℕ) (z : Place) → is_refused (plain_split_before ys z).answer ≡ true → (plain_split_before ys z).place ≡ z
+split-before-stays : (ys : List ℕ) (z : Place) → is_err (plain_split_before ys z).answer ≡ true → (plain_split_before ys z).place ≡ z
 split-before-stays [] (at L v R) e = absurd (not-both (sym e))
 split-before-stays [] (at_null xs) e = absurd (not-both (sym e))
 split-before-stays (y ∷ ys) (at L v R) e = refl
@@ -172,12 +172,12 @@ module _ (n : ℕ) (d : Desk) (h : History) (g : Agrees n d h) (f : pool_fits n 
         go : (ys : List ℕ) → nodes y ≡ ys → does (outcome ws (taking ws (row_at d l) (row_at d m))) (plain_take z y h.stranded)
         go [] e =
             rw (e, take-empty ws (row_at d l).ends (nodes z) fits (g.sound l a).listing (row_at d m).ends (rw e at k))
-            (still-two n d h g l m a b ne Done (row empty_ends (null_cursor empty_ends)) (row (row_at d l).ends (null_cursor (row_at d l).ends)) (at_null []) (at_null (nodes z))
+            (still-two n d h g l m a b ne done (row empty_ends (null_cursor empty_ends)) (row (row_at d l).ends (null_cursor (row_at d l).ends)) (at_null []) (at_null (nodes z))
             (empty-sound ws) (sound-null ws (row_at d l).ends (nodes z) (g.sound l a).listing)
             (λ x. let c : times x (nodes y) ≡ 0 = ap (times x) e in omega arith))
         go (v ∷ ys) e =
             rw (e, take-full ws (row_at d l).ends (nodes z) fits (g.sound l a).listing (row_at d m).ends v ys (rw e at k))
-            (stays n d h g l m a b (Refused NotEmpty))
+            (stays n d h g l m a b (Err NotEmpty))
 
   -- ---- by code
 
@@ -208,4 +208,4 @@ module _ (n : ℕ) (d : Desk) (h : History) (g : Agrees n d h) (f : pool_fits n 
       pick (eqb code 16) (λ e. push-front n d h g f l m a b i) (λ e16.
       pick (eqb code 17) (λ e. push-back n d h g f l m a b i) (λ e17.
       pick (eqb code 18) (λ e. pop-front n d h g f l m a b) (λ e18.
-      pick (eqb code 19) (λ e. pop-back n d h g f l m a b) (λ e19. stays n d h g l m a b (Refused Malformed)))))))))))))))))))
+      pick (eqb code 19) (λ e. pop-back n d h g f l m a b) (λ e19. stays n d h g l m a b (Err Malformed)))))))))))))))))))

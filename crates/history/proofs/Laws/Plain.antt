@@ -1,14 +1,14 @@
 -- The plain edits at a place: they ask only whether the new node is linked, and each adds or takes away its own nodes.
 -- Assumes nothing.
 use mathlib.Core.Path.{◌≡◌, refl, sym, ap, ◌∙◌}
-use mathlib.Core.Bool.{Bool, true, false, cond}
+use mathlib.Core.Bool.{Bool, true, false}
 use mathlib.Core.List.{List, [], ◌∷◌, ◌++◌}
 use Prim.Native.Nat.{ℕ, ◌+◌, ◌-◌, ◌<◌, ◌≤◌}
 use native.Mathlib.Omega.{arith}
 use lib.Dec.{eqb, ltb}
 use borrow.Author.Tests.{ltb-true, ltb-false}
-use Rattle.answers.specs.declared.Answer.TheVariants.{Done}
-use Rattle.answers.specs.Answer.{is_refused}
+use Rattle.std.specs.Prelude.{Err}
+use Rattle.answers.specs.Answer.{done, if_refused}
 use Rattle.cursor.specs.Plain.{Place, at, at_null, nodes, mirror, next_place, prev_place}
 use Rattle.cursor.proofs.Laws.Mirror.{mirror-nodes}
 use Rattle.cursor.specs.Does.{Plain, plain, linking, unlinking, free_test}
@@ -78,7 +78,7 @@ times-prev y z = times-mirror y (next_place (mirror z)) ∙ times-next y (mirror
 
 -- an insert that leaves the place z'
 abbrev pub inserting : Place → ℕ → (ℕ → Bool) → ℕ → Place → Plain
-inserting z' n f i z = let t = free_test n f i in cond (is_refused t) (plain t z f) (plain Done z' (linking i f))
+inserting z' n f i z = if_refused (free_test n f i) (λ r. plain (Err r) z f) (plain done z' (linking i f))
 
 module _ (z' : Place) (n i : ℕ) (z : Place) where
   pub insert-asks : (f f' : ℕ → Bool) → (i < n → f i ≡ f' i)

@@ -6,11 +6,11 @@ use Prim.Native.Nat.{ℕ, zero, suc, ◌+◌, ◌≤◌}
 use native.Mathlib.Omega.{arith}
 use lib.Dec.{eqb, ltb}
 use lib.ListN.{length, set, replicate, length-set, length-replicate, get_or-replicate}
+use Rattle.std.specs.Prelude.{None, Option, Some}
 use Rattle.words.specs.Names.{is_linked}
 use Rattle.cursor.specs.Plain.{Place, at_null}
 use Rattle.words.specs.Names.{directory_limit}
-use Rattle.lines.specs.declared.line.Parsed.{Parsed}
-use Rattle.lines.specs.declared.line.Parsed.TheVariants.{Right, Malformed as Wrong}
+use Rattle.lines.specs.declared.line.Order.{Order}
 use Rattle.lines.specs.Lines.{line_of, tested}
 use Rattle.lines.specs.declared.answer.Reply.{Reply}
 use Rattle.desk.specs.declared.Row.{Row}
@@ -60,15 +60,15 @@ either : (c : Bool) (t t' : PlainStepped) (v : ℕ) → length t.history.places 
 either true t t' v p q = p
 either false t t' v p q = q
 
-tested-lists : (n : ℕ) (h : History) (p : Parsed) → length (plain_step_tested n h p).history.places ≡ length h.places
+tested-lists : (n : ℕ) (h : History) (p : Option Order) → length (plain_step_tested n h p).history.places ≡ length h.places
 unfolding plain_put_back
-tested-lists n h Wrong = refl
-tested-lists n h (Right o) =
+tested-lists n h None = refl
+tested-lists n h (Some o) =
     either (eqb o.code 20) _ _ (length h.places) refl
     (either (ltb o.list (length h.places) && ltb o.other (length h.places)) _ _ (length h.places)
     (length-set (set h.places o.other _) o.list _ ∙ length-set h.places o.other _) refl)
 
-pub step-lists : (n : ℕ) (h : History) (p : Parsed) → length (plain_step n h p).history.places ≡ length h.places
+pub step-lists : (n : ℕ) (h : History) (p : Option Order) → length (plain_step n h p).history.places ≡ length h.places
 step-lists n h p = tested-lists n h (tested p)
 
 -- ---- after any lines
@@ -94,7 +94,7 @@ module _ (n : ℕ) (small : n ≤ desk_limit) where
       step_follows n _ v.marks _ s.0 small (rw (s.1, length-replicate {A = Place} k (at_null [])) few) mv (line_of v.line)
 
   -- the answers are the history's
-  answers-from : (ms : List ℕ) → length ms ≡ n → (ps : List Parsed) (d : Desk) (h : History) → length h.places ≤ directory_limit → Agrees n d h
+  answers-from : (ms : List ℕ) → length ms ≡ n → (ps : List (Option Order)) (d : Desk) (h : History) → length h.places ≤ directory_limit → Agrees n d h
       → answer_all d ms ps ≡ plain_answers n h ps
   unfolding answer_all plain_answers
   answers-from ms long [] d h few g = refl
@@ -104,7 +104,7 @@ module _ (n : ℕ) (small : n ≤ desk_limit) where
       ap (λ (r : Reply). r ∷ answer_all (step d ms p).result.desk ms ps) s.reply
       ∙ ap (λ (rs : List Reply). (plain_step n h p).reply ∷ rs) (answers-from ms long ps _ (plain_step n h p).history (rw e few) s.agrees)
 
-  pub answers-are : (k : ℕ) → k ≤ directory_limit → (ms : List ℕ) → length ms ≡ n → (ps : List Parsed) → answer_all (fresh_desk n k) ms ps ≡ plain_answers n (start k) ps
+  pub answers-are : (k : ℕ) → k ≤ directory_limit → (ms : List ℕ) → length ms ≡ n → (ps : List (Option Order)) → answer_all (fresh_desk n k) ms ps ≡ plain_answers n (start k) ps
   unfolding start
   answers-are k few ms long ps =
       answers-from ms long ps (fresh_desk n k) (start k) (rw (length-replicate {A = Place} k (at_null [])) few) (fresh-agrees n k)

@@ -7,6 +7,7 @@ use native.Mathlib.Omega.{arith}
 use lib.Dec.{eqb, ltb}
 use lib.ListN.{length, get_or}
 use borrow.Author.Tests.{ltb-true, le-leb, eqb-true, eq-eqb}
+use Rattle.std.specs.Prelude.{Err, None, Option, Some}
 use Rattle.words.specs.declared.names.Node.{Node}
 use Rattle.words.specs.Names.{pool_fits, directory_limit, directory_fits, decoding}
 use Rattle.words.specs.Pool.{Outcome, outcome}
@@ -16,8 +17,7 @@ use Rattle.words.proofs.Laws.Names.{name-is, node-name, null-is-none}
 use Rattle.words.proofs.Laws.Nodes.{all_right}
 use Rattle.words.proofs.Laws.Pool.{few-none}
 use Rattle.answers.specs.declared.Refusal.TheVariants.{NoSuchList, SameList, Malformed}
-use Rattle.answers.specs.declared.Answer.TheVariants.{Done, Refused}
-use Rattle.answers.specs.Answer.{answer_number, handed}
+use Rattle.answers.specs.Answer.{answer_number, handed, done}
 use Rattle.ends.specs.declared.Ends.{Ends}
 use Rattle.ends.specs.Ends.{empty_ends}
 use Rattle.answers.proofs.Laws.Ladder.{not-both}
@@ -26,9 +26,7 @@ use Rattle.cursor.specs.Cursor.{null_cursor}
 use Rattle.cursor.specs.Plain.{Place, at, at_null, Sound}
 use Rattle.walk.specs.Marks.{Marking, marking}
 use Rattle.lines.specs.declared.line.Order.{Order}
-use Rattle.lines.specs.declared.line.Parsed.{Parsed}
-use Rattle.lines.specs.declared.line.Parsed.TheVariants.{Right, Malformed as Wrong}
-use Rattle.lines.specs.Lines.{right_fields, same_list, tested}
+use Rattle.lines.specs.Lines.{right_fields, same_list}
 use Rattle.lines.proofs.Laws.Tested.{tested-right, tested-wrong, tested-malformed}
 use Rattle.lines.specs.declared.answer.Reply.{Reply}
 use Rattle.desk.specs.declared.Row.{Row}
@@ -60,7 +58,7 @@ module _ (n : ℕ) (d : Desk) (ms : List ℕ) (h : History) (g : Agrees n d h) (
   f = desk-in-pool n small
 
   -- a line that changes nothing
-  quiet : (p : Parsed) (r : Reply) → Follows n d p (desk_stepped d r) (plain_stepped h r)
+  quiet : (p : Option Order) (r : Reply) → Follows n d p (desk_stepped d r) (plain_stepped h r)
   quiet p r =
       record {
         agrees = g;
@@ -70,7 +68,7 @@ module _ (n : ℕ) (d : Desk) (ms : List ℕ) (h : History) (g : Agrees n d h) (
         none = λ e. refl;
       }
 
-  quiet-as : (p : Parsed) (r r' : Reply) → r ≡ r' → Follows n d p (desk_stepped d r) (plain_stepped h r')
+  quiet-as : (p : Option Order) (r r' : Reply) → r ≡ r' → Follows n d p (desk_stepped d r) (plain_stepped h r')
   quiet-as p r r' e = rw e (quiet p r')
 
   -- ---- a command on lists
@@ -83,9 +81,9 @@ module _ (n : ℕ) (d : Desk) (ms : List ℕ) (h : History) (g : Agrees n d h) (
         → Agrees n (desk' n d h g o.list o.other a b w.words w.result.named w.result.other)
         (history' n d h g o.list o.other a b t.named t.other t.stranded)
         → ((x : ℕ) → 0 < times x t.stranded → get_or w.words x 0 ≡ get_or d.words x 0)
-        → (is_clear (Right o) ≡ false → AtMostFour d.words w.words)
-        → (is_reversal (Right o) ≡ true → w.words ≡ d.words)
-        → (marks : List ℕ) → Follows n d (Right o) (put_back d o (outcome w.words (marking marks w.result))).result (plain_put_back h o t)
+        → (is_clear (Some o) ≡ false → AtMostFour d.words w.words)
+        → (is_reversal (Some o) ≡ true → w.words ≡ d.words)
+        → (marks : List ℕ) → Follows n d (Some o) (put_back d o (outcome w.words (marking marks w.result))).result (plain_put_back h o t)
     unfolding put_back plain_put_back reply_to plain_reply_to
     back w t ans s k kept fw turned marks =
         record {
@@ -99,18 +97,18 @@ module _ (n : ℕ) (d : Desk) (ms : List ℕ) (h : History) (g : Agrees n d h) (
         seen : shown (decoding (length d.words) w.result.named.cursor.current) ≡ under t.named
         seen = rw (g.long ∙ sym k.long) (under-is w.words w.result.named.ends w.result.named.cursor t.named s)
 
-    comes : (w : Outcome Worked) (t : PlainWorked) → Comes n d h g o.list o.other a b w t → (is_reversal (Right o) ≡ true → w.words ≡ d.words)
-        → Follows n d (Right o) (put_back d o (outcome w.words (marking ms w.result))).result (plain_put_back h o t)
+    comes : (w : Outcome Worked) (t : PlainWorked) → Comes n d h g o.list o.other a b w t → (is_reversal (Some o) ≡ true → w.words ≡ d.words)
+        → Follows n d (Some o) (put_back d o (outcome w.words (marking ms w.result))).result (plain_put_back h o t)
     comes w t k turned = back w t k.answer k.sound k.agrees k.kept (λ e. k.few) turned ms
 
     -- clear
     clears : eqb o.code 13 ≡ true
-        → Follows n d (Right o) (put_back d o (clearing d.words ms (row_at d o.list) (row_at d o.other))).result
-        (plain_put_back h o (plain_worked Done (at_null []) (place_at h o.other) h.stranded))
+        → Follows n d (Some o) (put_back d o (clearing d.words ms (row_at d o.list) (row_at d o.other))).result
+        (plain_put_back h o (plain_worked done (at_null []) (place_at h o.other) h.stranded))
     clears e =
         rw (clear-is n d h g f o.list o.other a b ms long)
-        (back (outcome (cleared n d h g f o.list o.other a b) (worked Done (row empty_ends (null_cursor empty_ends)) (row_at d o.other)))
-        (plain_worked Done (at_null []) (place_at h o.other) h.stranded)
+        (back (outcome (cleared n d h g f o.list o.other a b) (worked done (row empty_ends (null_cursor empty_ends)) (row_at d o.other)))
+        (plain_worked done (at_null []) (place_at h o.other) h.stranded)
         refl (empty-sound (cleared n d h g f o.list o.other a b)) (clear-agrees n d h g f o.list o.other a b) (clear_kept n d h g f o.list o.other a b)
         (λ c. absurd (not-both (sym e ∙ c)))
         (λ c. absurd (two-codes (eqb-true o.code 13 e) (eqb-true o.code 11 c)))
@@ -124,9 +122,9 @@ module _ (n : ℕ) (d : Desk) (ms : List ℕ) (h : History) (g : Agrees n d h) (
     unfolding by_code
     turned-words r q i e = rw (eqb-true o.code 11 e)
 
-    works : Follows n d (Right o)
+    works : Follows n d (Some o)
         (put_back d o (let w = on_rows d.words (row_at d o.list) (row_at d o.other) o in outcome w.words (marking ms w.result))).result
-        (plain_put_back h o (cond (same_list o) (plain_worked (Refused SameList) (place_at h o.list) (place_at h o.other) h.stranded)
+        (plain_put_back h o (cond (same_list o) (plain_worked (Err SameList) (place_at h o.list) (place_at h o.other) h.stranded)
         (plain_by_code o.code n h (place_at h o.list) (place_at h o.other) o.node)))
     unfolding on_rows
     works = go (same_list o) refl
@@ -134,13 +132,13 @@ module _ (n : ℕ) (d : Desk) (ms : List ℕ) (h : History) (g : Agrees n d h) (
         i : Node
         i = record { 0 = o.node }
 
-        go : (v : Bool) → same_list o ≡ v → Follows n d (Right o)
+        go : (v : Bool) → same_list o ≡ v → Follows n d (Some o)
             (put_back d o (let w = on_rows d.words (row_at d o.list) (row_at d o.other) o in outcome w.words (marking ms w.result))).result
-            (plain_put_back h o (cond (same_list o) (plain_worked (Refused SameList) (place_at h o.list) (place_at h o.other) h.stranded)
+            (plain_put_back h o (cond (same_list o) (plain_worked (Err SameList) (place_at h o.list) (place_at h o.other) h.stranded)
             (plain_by_code o.code n h (place_at h o.list) (place_at h o.other) o.node)))
         go true e =
             rw e
-            (comes (outcome d.words (worked (Refused SameList) (row_at d o.list) (row_at d o.other))) _ (stays n d h g o.list o.other a b (Refused SameList)) (λ c. refl))
+            (comes (outcome d.words (worked (Err SameList) (row_at d o.list) (row_at d o.other))) _ (stays n d h g o.list o.other a b (Err SameList)) (λ c. refl))
         go false e =
             rw e
             (comes (by_code o.code d.words (row_at d o.list) (row_at d o.other) i) _
@@ -148,13 +146,13 @@ module _ (n : ℕ) (d : Desk) (ms : List ℕ) (h : History) (g : Agrees n d h) (
             (λ u q. not-both (sym (rw (u, eq-eqb o.list o.other q)) ∙ e)))
             (turned-words (row_at d o.list) (row_at d o.other) i))
 
-    commands : Follows n d (Right o) (put_back d o (command d.words ms (row_at d o.list) (row_at d o.other) o)).result
+    commands : Follows n d (Some o) (put_back d o (command d.words ms (row_at d o.list) (row_at d o.other) o)).result
         (plain_put_back h o (plain_command n h o (place_at h o.list) (place_at h o.other)))
     unfolding command plain_command
     commands = go (eqb o.code 13) refl
       where
         go : (v : Bool) → eqb o.code 13 ≡ v
-            → Follows n d (Right o) (put_back d o (command d.words ms (row_at d o.list) (row_at d o.other) o)).result
+            → Follows n d (Some o) (put_back d o (command d.words ms (row_at d o.list) (row_at d o.other) o)).result
             (plain_put_back h o (plain_command n h o (place_at h o.list) (place_at h o.other)))
         go true e = rw e (clears e)
         go false e = rw e works
@@ -170,7 +168,7 @@ module _ (n : ℕ) (d : Desk) (ms : List ℕ) (h : History) (g : Agrees n d h) (
         le-leb (length d.lists) directory_limit (rw g.lists few),
       )
 
-  audits : (p : Parsed) → Follows n d p (audited d ms).result (plain_stepped h (reply 0 (size h.places) (length h.stranded)))
+  audits : (p : Option Order) → Follows n d p (audited d ms).result (plain_stepped h (reply 0 (size h.places) (length h.stranded)))
   unfolding audited
   audits p = quiet-as p _ _ (audit-replies n d h g ms f few long)
 
@@ -178,28 +176,28 @@ module _ (n : ℕ) (d : Desk) (ms : List ℕ) (h : History) (g : Agrees n d h) (
   unfolding lists_there
   there o = rw g.lists
 
-  pick : (p : Parsed) (c : Bool) (x x' : Marking DeskStepped) (t t' : PlainStepped) → (c ≡ true → Follows n d p x.result t) → (c ≡ false → Follows n d p x'.result t')
+  pick : (p : Option Order) (c : Bool) (x x' : Marking DeskStepped) (t t' : PlainStepped) → (c ≡ true → Follows n d p x.result t) → (c ≡ false → Follows n d p x'.result t')
       → Follows n d p (cond c x x').result (cond c t t')
   pick p true x x' t t' u v = u refl
   pick p false x x' t t' u v = v refl
 
   -- once it was tested for 11
-  right-follows : (p : Parsed) → Follows n d p (step_tested d ms p).result (plain_step_tested n h p)
+  right-follows : (p : Option Order) → Follows n d p (step_tested d ms p).result (plain_step_tested n h p)
   unfolding unread
-  right-follows Wrong = quiet Wrong (reply_unread Malformed)
-  right-follows (Right o) =
+  right-follows None = quiet None (reply_unread Malformed)
+  right-follows (Some o) =
       rw (fits, there o)
-      (pick (Right o) (eqb o.code 20) _ _ _ _ (λ e. audits (Right o))
-      (λ e1. pick (Right o) (ltb o.list (length h.places) && ltb o.other (length h.places)) _ _ _ _
+      (pick (Some o) (eqb o.code 20) _ _ _ _ (λ e. audits (Some o))
+      (λ e1. pick (Some o) (ltb o.list (length h.places) && ltb o.other (length h.places)) _ _ _ _
       (λ e. let k = both (ltb o.list (length h.places)) (ltb o.other (length h.places)) e in
       commands o (ltb-true o.list (length h.places) k.0) (ltb-true o.other (length h.places) k.1))
-      (λ e. quiet (Right o) (reply_unread NoSuchList))))
+      (λ e. quiet (Some o) (reply_unread NoSuchList))))
 
-  pub step_follows : (p : Parsed) → Follows n d p (step d ms p).result (plain_step n h p)
+  pub step_follows : (p : Option Order) → Follows n d p (step d ms p).result (plain_step n h p)
   unfolding unread
-  step_follows Wrong = rw tested-malformed (quiet Wrong (reply_unread Malformed))
-  step_follows (Right o) = go (right_fields o) refl
+  step_follows None = rw tested-malformed (quiet None (reply_unread Malformed))
+  step_follows (Some o) = go (right_fields o) refl
     where
-      go : (t : Bool) → right_fields o ≡ t → Follows n d (Right o) (step d ms (Right o)).result (plain_step n h (Right o))
-      go true e = rw (tested-right o e) (right-follows (Right o))
-      go false e = rw (tested-wrong o e) (quiet (Right o) (reply_unread Malformed))
+      go : (t : Bool) → right_fields o ≡ t → Follows n d (Some o) (step d ms (Some o)).result (plain_step n h (Some o))
+      go true e = rw (tested-right o e) (right-follows (Some o))
+      go false e = rw (tested-wrong o e) (quiet (Some o) (reply_unread Malformed))

@@ -20,7 +20,8 @@ use Rattle.words.proofs.Laws.Outside.{Outside, covered-null, covered-here, cover
 use Rattle.links.proofs.Laws.XorListing.{xor-listing-linked}
 use Rattle.links.proofs.Laws.Between.{linked, link-changes}
 use Rattle.answers.specs.declared.Refusal.TheVariants.{AlreadyLinked, NoSuchNode}
-use Rattle.answers.specs.declared.Answer.TheVariants.{Done, Refused}
+use Rattle.std.specs.Prelude.{Err}
+use Rattle.answers.specs.Answer.{done}
 use Rattle.ends.specs.declared.Ends.{Ends}
 use Rattle.ends.specs.Ends.{ends_of}
 use Rattle.ends.proofs.Laws.Holds.{name-null}
@@ -39,20 +40,20 @@ use Rattle.cursor.proofs.Laws.Common.{refused-does, named, naming-in, sound-node
 after-node : (ws : List ℕ) (e : Ends) (c : Cursor) (i : ℕ) (L : List ℕ) (x : ℕ) (R : List ℕ) → Sound ws e c (at L x R)
     → inserted_after ws e c (named i)
     ≡ outcome (link_between ws (name i) c.current.0 c.next.0)
-    (edited Done (ends_of e.head (cond (is_null c.next) (named i) e.tail)) (cursor_of c.current c.prev (named i)))
+    (edited done (ends_of e.head (cond (is_null c.next) (named i) e.tail)) (cursor_of c.current c.prev (named i)))
 unfolding inserted_after
 after-node ws e c i L x R s = let nn : is_null c.current ≡ false = rw s.place.0 (name-null x) in rw nn
 
 after-null : (ws : List ℕ) (e : Ends) (c : Cursor) (i : ℕ) (xs : List ℕ) → Sound ws e c (at_null xs)
     → inserted_after ws e c (named i)
     ≡ outcome (link_between ws (name i) 0 e.head.0)
-    (edited Done (ends_of (named i) (cond (is_null e.tail) (named i) e.tail)) (null_cursor (ends_of (named i) (cond (is_null e.tail) (named i) e.tail))))
+    (edited done (ends_of (named i) (cond (is_null e.tail) (named i) e.tail)) (null_cursor (ends_of (named i) (cond (is_null e.tail) (named i) e.tail))))
 unfolding inserted_after
 after-null ws e c i xs s = let nn : is_null c.current ≡ true = rw s.place.0 in rw nn
 
 -- what is left
 pub record Inserted (ws : List ℕ) (z z' : Place) (i : ℕ) (o : Outcome Edited) : Type 0 where
-  pub answer : o.result.answer ≡ Done
+  pub answer : o.result.answer ≡ done
   pub sound : Sound o.words o.result.ends o.result.cursor z'
   pub outside : Outside (i ∷ nodes z) ws o.words
 
@@ -125,13 +126,13 @@ all_after P i (at_null xs) h = h
 module _ (ws : List ℕ) (e : Ends) (c : Cursor) (z : Place) (i : Node) (f : pool_fits (length ws) ≡ true) (s : Sound ws e c z) where
   no_node : ltb i.0 (length ws) ≡ false → Does ws z (insert_after ws e c i) (plain_insert_after (length ws) (linked_in ws) i.0 z)
   unfolding insert_after plain_insert_after
-  no_node h = refused-does ws e c z s _ _ (Refused NoSuchNode) (rw (sound-node-test ws e c z i f s, h, acquire-refused ws NoSuchNode (naming i))) (rw h)
+  no_node h = refused-does ws e c z s _ _ (Err NoSuchNode) (rw (sound-node-test ws e c z i f s, h, acquire-refused ws NoSuchNode (naming i))) (rw h)
 
   taken : ltb i.0 (length ws) ≡ true → linked_in ws i.0 ≡ true
       → Does ws z (insert_after ws e c i) (plain_insert_after (length ws) (linked_in ws) i.0 z)
   unfolding insert_after plain_insert_after
   taken h l =
-      refused-does ws e c z s _ _ (Refused AlreadyLinked)
+      refused-does ws e c z s _ _ (Err AlreadyLinked)
       (rw (sound-node-test ws e c z i f s, h, naming-in (length ws) i f (ltb-true i.0 (length ws) h), acquire-linked ws i.0 l)) (rw (h, l))
 
   call : ltb i.0 (length ws) ≡ true → linked_in ws i.0 ≡ false
@@ -140,7 +141,7 @@ module _ (ws : List ℕ) (e : Ends) (c : Cursor) (z : Place) (i : Node) (f : poo
   call h l = rw (sound-node-test ws e c z i f s, h, naming-in (length ws) i f (ltb-true i.0 (length ws) h), acquire-free ws i.0 l)
 
   plain-call : ltb i.0 (length ws) ≡ true → linked_in ws i.0 ≡ false
-      → plain_insert_after (length ws) (linked_in ws) i.0 z ≡ plain Done (place_after i.0 z) (linking i.0 (linked_in ws))
+      → plain_insert_after (length ws) (linked_in ws) i.0 z ≡ plain done (place_after i.0 z) (linking i.0 (linked_in ws))
   unfolding plain_insert_after
   plain-call h l = rw (h, l)
 

@@ -7,9 +7,9 @@ use Rattle.words.specs.declared.names.Node.{Node}
 use Rattle.words.specs.declared.names.Name.{Name}
 use Rattle.words.specs.Names.{is_null, naming}
 use Rattle.words.specs.Pool.{Outcome, outcome}
-use Rattle.answers.specs.declared.Answer.TheVariants.{Done}
+use Rattle.std.specs.Prelude.{is_err}
 use Rattle.ends.specs.declared.Ends.{Ends}
-use Rattle.answers.specs.Answer.{is_refused}
+use Rattle.answers.specs.Answer.{done}
 use Rattle.cursor.specs.declared.Cursor.{Cursor}
 use Rattle.cursor.specs.declared.Edited.{Edited}
 use Rattle.cursor.specs.Cursor.{edited, node_test, acquire_node}
@@ -18,18 +18,18 @@ use Rattle.cursor.proofs.Laws.Refused.{Unchanged, acquired}
 
 -- ---- the steps are never refused
 
-either-done : (b : Bool) (x y : Outcome Edited) → is_refused x.result.answer ≡ false → is_refused y.result.answer ≡ false
-    → is_refused (cond b x y).result.answer ≡ false
+either-done : (b : Bool) (x y : Outcome Edited) → is_err x.result.answer ≡ false → is_err y.result.answer ≡ false
+    → is_err (cond b x y).result.answer ≡ false
 either-done true x y h k = h
 either-done false x y h k = k
 
-after-done : (ws : List ℕ) (e : Ends) (c : Cursor) (new : Name) → is_refused (inserted_after ws e c new).result.answer ≡ false
+after-done : (ws : List ℕ) (e : Ends) (c : Cursor) (new : Name) → is_err (inserted_after ws e c new).result.answer ≡ false
 unfolding inserted_after
-after-done ws e c new = either-done (is_null c.current) (outcome _ (edited Done _ _)) (outcome _ (edited Done _ _)) refl refl
+after-done ws e c new = either-done (is_null c.current) (outcome _ (edited done _ _)) (outcome _ (edited done _ _)) refl refl
 
-before-done : (ws : List ℕ) (e : Ends) (c : Cursor) (new : Name) → is_refused (inserted_before ws e c new).result.answer ≡ false
+before-done : (ws : List ℕ) (e : Ends) (c : Cursor) (new : Name) → is_err (inserted_before ws e c new).result.answer ≡ false
 unfolding inserted_before
-before-done ws e c new = either-done (is_null c.current) (outcome _ (edited Done _ _)) (outcome _ (edited Done _ _)) refl refl
+before-done ws e c new = either-done (is_null c.current) (outcome _ (edited done _ _)) (outcome _ (edited done _ _)) refl refl
 
 -- ---- the calls
 

@@ -3,7 +3,7 @@ use mathlib.Core.Path.{◌≡◌, refl, sym, ap, ◌∙◌}
 use mathlib.Core.Logic.{◌≢◌}
 use mathlib.Core.Bool.{Bool, true, false}
 use mathlib.Core.List.{List, [], ◌∷◌, ◌++◌, reverse, reverse-append, reverse-reverse, append_assoc, append-nil}
-use Prim.Native.Nat.{ℕ, ◌+◌, ◌<◌}
+use Prim.Native.Nat.{ℕ, ◌<◌}
 use lib.Bits.{bit_xor}
 use lib.Dec.{eqb}
 use lib.ListN.{length}
@@ -18,18 +18,17 @@ use Rattle.words.proofs.Laws.Names.{name-is, node-name}
 use Rattle.words.proofs.Laws.Pool.{word-name}
 use Rattle.words.proofs.Laws.Chain.{chain-split, back-append, front-reverse, back-reverse, last_of, back_last, all-last}
 use Rattle.links.proofs.Laws.XorListing.{xor-listing-reverse}
-use Rattle.answers.specs.declared.Answer.{Answer}
-use Rattle.answers.specs.declared.Answer.TheVariants.{Done, Handed}
+use Rattle.std.specs.Prelude.{Some, Ok}
+use Rattle.answers.specs.Answer.{Answer, done}
 use Rattle.ends.specs.declared.Ends.{Ends}
-use Rattle.answers.specs.Answer.{handing}
 use Rattle.ends.proofs.Laws.Holds.{name-null, name-other}
 use Rattle.iter.specs.declared.Iter.{Iter}
 use Rattle.iter.specs.Iter.{iter_of, over, turned_iter, stepped, next, next_back}
 use Rattle.iter.specs.Plain.{first, rest, plain_run, iter_run, steps, handed_all}
 
-abbrev Some : List ℕ → Type 0
-Some [] = ⊥
-Some (x ∷ xs) = Unit {0}
+abbrev Full : List ℕ → Type 0
+Full [] = ⊥
+Full (x ∷ xs) = Unit {0}
 
 -- the iterator has the nodes M left, of a listing whose nodes A it has passed at the front and B at the back
 pub record Left (ws : List ℕ) (it : Iter) (M : List ℕ) : Type 0 where
@@ -40,14 +39,14 @@ pub record Left (ws : List ℕ) (it : Iter) (M : List ℕ) : Type 0 where
   pub listing : Listing bit_xor ws h t (A ++ (M ++ B))
   pub head : it.head.0 ≡ front M 0
   pub tail : it.tail.0 ≡ back 0 M
-  pub ahead : Some M → it.prev_head.0 ≡ back 0 A
-  pub behind : Some M → it.next_tail.0 ≡ front B 0
+  pub ahead : Full M → it.prev_head.0 ≡ back 0 A
+  pub behind : Full M → it.next_tail.0 ≡ front B 0
 
 -- ---- seen from the other side
 
-some-turned : (M : List ℕ) → Some (reverse M) → Some M
-some-turned [] s = s
-some-turned (x ∷ M) s = tt
+full-turned : (M : List ℕ) → Full (reverse M) → Full M
+full-turned [] s = s
+full-turned (x ∷ M) s = tt
 
 pub left-turned : (ws : List ℕ) (it : Iter) (M : List ℕ) → Left ws it M → Left ws (turned_iter it) (reverse M)
 left-turned ws it M k =
@@ -62,23 +61,23 @@ left-turned ws it M k =
       listing = rw e at (xor-listing-reverse ws k.h k.t (k.A ++ (M ++ k.B)) k.listing);
       head = k.tail ∙ sym (front-reverse 0 M);
       tail = k.head ∙ sym (back-reverse 0 M);
-      ahead = λ s. k.behind (some-turned M s) ∙ sym (back-reverse 0 k.B);
-      behind = λ s. k.ahead (some-turned M s) ∙ sym (front-reverse 0 k.A);
+      ahead = λ s. k.behind (full-turned M s) ∙ sym (back-reverse 0 k.B);
+      behind = λ s. k.ahead (full-turned M s) ∙ sym (front-reverse 0 k.A);
     }
 
 -- ---- one step
 
-handed_out : (n : ℕ) (w : Name) (x : ℕ) → x < n → w.0 ≡ name x → handing (decoding n w) ≡ Handed (record { 0 = x })
+handed_out : (n : ℕ) (w : Name) (x : ℕ) → x < n → w.0 ≡ name x → ◌≡◌ {A = Answer} (Ok (decoding n w)) (Ok (Some (record { 0 = x })))
 unfolding decoding
 handed_out n w x r e = rw (e, name-is n x r, node-name x)
 
 -- what a step of the code is, by what is left
-step-none : (ws : List ℕ) (it : Iter) → pool_fits (length ws) ≡ true → it.head.0 ≡ 0 → next ws it ≡ stepped Done it
+step-none : (ws : List ℕ) (it : Iter) → pool_fits (length ws) ≡ true → it.head.0 ≡ 0 → next ws it ≡ stepped done it
 unfolding next
 step-none ws it f h = rw (f, h)
 
 step-last : (ws : List ℕ) (it : Iter) (x : ℕ) → pool_fits (length ws) ≡ true → x < length ws → it.head.0 ≡ name x → it.tail.0 ≡ name x
-    → next ws it ≡ stepped (Handed (record { 0 = x })) over
+    → next ws it ≡ stepped (Ok (Some (record { 0 = x }))) over
 unfolding next
 step-last ws it x f r h t =
     let n : is_null it.head ≡ false = rw h (name-null x) in
@@ -88,7 +87,7 @@ step-last ws it x f r h t =
 
 step-on : (ws : List ℕ) (it : Iter) (x y : ℕ) → pool_fits (length ws) ≡ true → x < length ws → y < length ws → it.head.0 ≡ name x
     → eqb (name x) it.tail.0 ≡ false → next_of ws it.head.0 it.prev_head.0 ≡ name y
-    → next ws it ≡ stepped (Handed (record { 0 = x })) (record { prev_head = it.head; head = record { 0 = name y }; tail = it.tail; next_tail = it.next_tail })
+    → next ws it ≡ stepped (Ok (Some (record { 0 = x }))) (record { prev_head = it.head; head = record { 0 = name y }; tail = it.tail; next_tail = it.next_tail })
 unfolding next
 step-on ws it x y f r ry h t a =
     let n : is_null it.head ≡ false = rw h (name-null x) in

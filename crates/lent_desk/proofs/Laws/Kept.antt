@@ -6,8 +6,8 @@ use Prim.Native.Nat.{ℕ}
 use lib.Dec.{eqb}
 use lib.ListN.{length, set, length-set}
 use Rattle.walk.specs.Marks.{Marking}
-use Rattle.lines.specs.declared.line.Parsed.{Parsed}
-use Rattle.lines.specs.declared.line.Parsed.TheVariants.{Right, Malformed as Wrong}
+use Rattle.lines.specs.declared.line.Order.{Order}
+use Rattle.std.specs.Prelude.{Option, Some, None}
 use Rattle.lines.specs.Lines.{tested}
 use Rattle.desk.specs.declared.Row.{Row}
 use Rattle.desk.specs.Step.{Desk, DeskStepped, desk_fits, lists_there, put_back, audited, unread, step_tested, step}
@@ -22,10 +22,10 @@ either : (c : Bool) (x y : Marking DeskStepped) (n : ℕ) → many x ≡ n → m
 either true x y n p q = p
 either false x y n p q = q
 
-step_count : (d : Desk) (ms : List ℕ) (p : Parsed) → many (step_tested d ms p) ≡ length d.lists
+step_count : (d : Desk) (ms : List ℕ) (p : Option Order) → many (step_tested d ms p) ≡ length d.lists
 unfolding unread audited put_back
-step_count d ms Wrong = refl
-step_count d ms (Right o) =
+step_count d ms None = refl
+step_count d ms (Some o) =
     let n = length d.lists in
     either (desk_fits d ms) _ _ n
     (either (eqb o.code 20) _ _ n refl
@@ -37,7 +37,7 @@ abbrev desk_with : List ℕ → List Row → Desk
 desk_with ws rs = record { words = ws; lists = rs }
 
 -- the desk that a line leaves is the step's
-pub desk-kept : (s : Lent) (p : Parsed) → desk_of (lent_step s p).lent ≡ (step (desk_of s) s.marks p).result.desk
+pub desk-kept : (s : Lent) (p : Option Order) → desk_of (lent_step s p).lent ≡ (step (desk_of s) s.marks p).result.desk
 unfolding lent_step left_by desk_of
 desk-kept s p =
     let d = (step (desk_of s) s.marks p).result.desk in

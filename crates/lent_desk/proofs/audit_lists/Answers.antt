@@ -1,24 +1,13 @@
 -- `audit_lists` meets its contract. Assumes nothing.
-use mathlib.Core.Path.{refl}
-use Prim.Native.Nat.{◌-◌}
-use Rattle.lent_desk.proofs.Laws.Copies.{copy-next, copies-audited}
-use borrow.Author.Rules.{rules}
+use Rattle.std.proofs.Common.{arith, length-set, ◌∙◌}
+use Rattle.lent_desk.proofs.Laws.Copies.{copied_more, copies-audited}
 use Rattle.lent_desk.proofs.audit_lists.Goals as goal
 
-pub loop-i-init : goal.loop-i-init
-loop-i-init c =
-    record {
-      come = search rules;
-      few = search rules;
-      all = c.row_count-k.ensures;
-      heads-room = refl;
-      tails-room = refl;
-      heads = refl;
-      tails = refl;
-    }
-
 pub loop-i-preserved : goal.loop-i-preserved
-loop-i-preserved c = copy-next _ _ _ _ _ _ c.loop-i.invariant c.loop-i-test.true c.row_at.ensures
+loop-i-preserved c = record {
+  room = length-set _ _ _ ∙ c.loop-i.invariant.room;
+  copied = copied_more _ _ _ _ (omega arith) (omega (arith, c.row_count-k.ensures)) c.row_at.ensures c.loop-i.invariant.copied;
+}
 
 pub returns : goal.returns
-returns c = copies-audited _ _ _ _ _ c.loop-i.invariant c.loop-i-test.false _ _ _ _ _ c.audit.ensures c.to_audit.ensures
+returns c = copies-audited _ _ _ _ c.row_count-k.ensures c.loop-i-test.false (omega arith) c.loop-i.invariant.copied _ _ _ _ _ c.audit_records.ensures c.to_audit.ensures

@@ -10,11 +10,11 @@ returns-then-not-sizes_fit c = too-big _ _ _ c.row_count-k.ensures _ c.sizes_fit
 pub audit_lists-requires : goal.audit_lists-requires
 audit_lists-requires c = few-lists (lent c.args.words.now c.args.lists.now c.args.marks.now) c.args.order _ c.row_count-k.ensures _ c.sizes_fit.ensures (ap not c.if-not-sizes_fit.false)
 
-pub returns-then-code-eq20 : goal.returns-then-code-eq20
-returns-then-code-eq20 c = audit-left _ _ _ c.row_count-k.ensures _ c.sizes_fit.ensures (ap not c.if-not-sizes_fit.false) c.if-code-eq20.true _ _ c.audit_lists.ensures
+pub returns-then-order-eq-AUDIT : goal.returns-then-order-eq-AUDIT
+returns-then-order-eq-AUDIT c = audit-left _ _ _ c.row_count-k.ensures _ c.sizes_fit.ensures (ap not c.if-not-sizes_fit.false) c.if-order-eq-AUDIT.true _ _ c.audit_lists.ensures
 
-pub returns-then-not-order-k : goal.returns-then-not-order-k
-returns-then-not-order-k c = no-list _ _ _ c.row_count-k.ensures _ c.sizes_fit.ensures (ap not c.if-not-sizes_fit.false) c.if-code-eq20.false (ap not c.if-not-order-k.true) _ c.unread-then-not-order-k.ensures
+pub returns-then-k-order : goal.returns-then-k-order
+returns-then-k-order c = no-list _ _ _ c.row_count-k.ensures _ c.sizes_fit.ensures (ap not c.if-not-sizes_fit.false) c.if-order-eq-AUDIT.false c.if-k-order.true _ c.unread-then-k-order.ensures
 
 pub returns : goal.returns
-returns c = command-left _ _ _ c.row_count-k.ensures _ c.sizes_fit.ensures (ap not c.if-not-sizes_fit.false) c.if-code-eq20.false (ap not c.if-not-order-k.false) _ c.step_command.ensures
+returns c = command-left _ _ _ c.row_count-k.ensures _ c.sizes_fit.ensures (ap not c.if-not-sizes_fit.false) c.if-order-eq-AUDIT.false c.if-k-order.false _ c.step_command.ensures

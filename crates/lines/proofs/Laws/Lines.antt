@@ -1,9 +1,9 @@
 -- A line that is read one byte at a time says what the whole line says. Assumes nothing.
 use mathlib.Core.Path.{◌≡◌, refl, sym, ap, ◌∙◌}
-use mathlib.Core.Logic.{◌⊎◌, ⊎_elim}
+use mathlib.Core.Logic.{⊎_elim}
 use mathlib.Core.Bool.{Bool, true, false, ◌&&◌, cond}
 use mathlib.Core.List.{List, [], ◌∷◌}
-use Prim.Native.Nat.{ℕ, suc, ◌+◌, ◌*◌, ◌%◌, ◌^◌, ◌-◌, ◌<◌, ◌≤◌}
+use Prim.Native.Nat.{ℕ, suc, ◌+◌, ◌*◌, ◌%◌, ◌^◌, ◌<◌, ◌≤◌}
 use native.Mathlib.Nat.{mod-eq_of_lt, eq-or-lt_of_le, add-zero, zero-add}
 use lib.Pow.{pow-lt, pow-add}
 use native.Mathlib.Omega.{arith}
@@ -12,9 +12,9 @@ use lib.ListN.{length, get_or, drop, drop_of_length-le}
 use lib.Seq.{drop-cons}
 use native.Mathlib.Numerals.{add-one}
 use borrow.Author.Tests.{lt-ltb, le-ltb, ltb-true, ltb-false, ne_eqb}
+use Rattle.lines.specs.declared.line.Order.{Order}
 use Rattle.lines.specs.declared.line.Line.{Line}
-use Rattle.lines.specs.declared.line.Parsed.{Parsed}
-use Rattle.lines.specs.declared.line.Parsed.TheVariants.{Malformed}
+use Rattle.std.specs.Prelude.{Option, None}
 use Rattle.lines.specs.Lines.{digit_of, value_from, all_digits, order_of, if_right, line_of, fresh, fed, fed_all, parsed}
 
 abbrev line : ℕ → ℕ → Line
@@ -27,8 +27,8 @@ spoilt [] = refl
 spoilt (b ∷ bs) = spoilt bs
 
 -- what is said of the rest of a line, after k digits that make v
-rest_of : ℕ → ℕ → List ℕ → Parsed
-rest_of v k bs = cond (eqb (k + length bs) 10 && all_digits bs) (if_right (order_of (value_from v bs))) Malformed
+rest_of : ℕ → ℕ → List ℕ → Option Order
+rest_of v k bs = cond (eqb (k + length bs) 10 && all_digits bs) (if_right (order_of (value_from v bs))) None
 
 -- k digits make a number below 16 to the k, which is 2 to the 4 * k
 small : (v k : ℕ) → v < 2 ^ (4 * k) → k ≤ 9 → v < 2 ^ 36
@@ -68,24 +68,24 @@ step-digit b bs v k h r d ih =
     let e : k + 1 + length bs ≡ k + suc (length bs) = omega arith in
     rw (fed-digit v k b h r d, lt-ltb (digit_of b) 16 d, ← e) ih
 
-says_nothing : parsed (line 0 11) ≡ Malformed
+says_nothing : parsed (line 0 11) ≡ None
 unfolding parsed
 says_nothing = refl
 
 -- a byte that spoils the line, and what is said of the line then
-spoils : (l : Line) (b : ℕ) (bs : List ℕ) → fed l b ≡ line 0 11 → parsed (fed_all l (b ∷ bs)) ≡ Malformed
+spoils : (l : Line) (b : ℕ) (bs : List ℕ) → fed l b ≡ line 0 11 → parsed (fed_all l (b ∷ bs)) ≡ None
 unfolding fed_all
 spoils l b bs e = ap parsed (ap (λ (m : Line). fed_all m bs) e ∙ spoilt bs) ∙ says_nothing
 
-rest-other : (b : ℕ) (bs : List ℕ) (v k : ℕ) → 16 ≤ digit_of b → rest_of v k (b ∷ bs) ≡ Malformed
+rest-other : (b : ℕ) (bs : List ℕ) (v k : ℕ) → 16 ≤ digit_of b → rest_of v k (b ∷ bs) ≡ None
 unfolding rest_of all_digits
 rest-other b bs v k d = rw (le-ltb (digit_of b) 16 d) (go (eqb (k + suc (length bs)) 10))
   where
-    go : (t : Bool) → cond (t && false) (if_right (order_of (value_from v (b ∷ bs)))) Malformed ≡ Malformed
+    go : (t : Bool) → cond (t && false) (if_right (order_of (value_from v (b ∷ bs)))) None ≡ None
     go true = refl
     go false = refl
 
-rest-full : (b : ℕ) (bs : List ℕ) (v : ℕ) → rest_of v 10 (b ∷ bs) ≡ Malformed
+rest-full : (b : ℕ) (bs : List ℕ) (v : ℕ) → rest_of v 10 (b ∷ bs) ≡ None
 unfolding rest_of
 rest-full b bs v = rw (ne_eqb (10 + suc (length bs)) 10 (λ e. omega arith))
 
@@ -99,7 +99,7 @@ rest : (bs : List ℕ) (v k : ℕ) → v < 2 ^ (4 * k) → k ≤ 10 → parsed (
 unfolding fed_all rest_of parsed all_digits value_from
 rest [] v k h r = rw (add-zero k) (go (eqb k 10))
   where
-    go : (t : Bool) → cond t (if_right (order_of v)) Malformed ≡ cond (t && true) (if_right (order_of v)) Malformed
+    go : (t : Bool) → cond t (if_right (order_of v)) None ≡ cond (t && true) (if_right (order_of v)) None
     go true = refl
     go false = refl
 rest (b ∷ bs) v k h r =

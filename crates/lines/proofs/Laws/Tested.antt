@@ -7,19 +7,18 @@ use lib.Dec.{eqb}
 use lib.ListN.{length}
 use Rattle.lines.specs.declared.line.Order.{Order}
 use Rattle.lines.specs.declared.line.Line.{Line}
-use Rattle.lines.specs.declared.line.Parsed.{Parsed}
-use Rattle.lines.specs.declared.line.Parsed.TheVariants.{Right, Malformed}
+use Rattle.std.specs.Prelude.{Option, Some, None}
 use Rattle.lines.specs.Lines.{right_fields, value_from, all_digits, order_of, if_right, line_of, parsed, tested}
 
-pub tested-right : (o : Order) → right_fields o ≡ true → tested (Right o) ≡ Right o
+pub tested-right : (o : Order) → right_fields o ≡ true → tested (Some o) ≡ Some o
 unfolding tested
 tested-right o e = rw e
 
-pub tested-wrong : (o : Order) → right_fields o ≡ false → tested (Right o) ≡ Malformed
+pub tested-wrong : (o : Order) → right_fields o ≡ false → tested (Some o) ≡ None
 unfolding tested
 tested-wrong o e = rw e
 
-pub tested-malformed : tested Malformed ≡ Malformed
+pub tested-malformed : tested None ≡ None
 unfolding tested
 tested-malformed = refl
 
@@ -30,7 +29,7 @@ again o = go (right_fields o) refl
     go true e = rw e (tested-right o e)
     go false e = rw e tested-malformed
 
-either : (t : Bool) (o : Order) → tested (cond t (if_right o) Malformed) ≡ cond t (if_right o) Malformed
+either : (t : Bool) (o : Order) → tested (cond t (if_right o) None) ≡ cond t (if_right o) None
 either true o = again o
 either false o = tested-malformed
 
@@ -43,19 +42,19 @@ unfolding parsed
 tested-parsed l = either (eqb l.count 10) (order_of l.value)
 
 -- the fields of an order, if there is one, are right
-fields_of : Parsed → Bool
-fields_of (Right o) = right_fields o
-fields_of Malformed = true
+fields_of : Option Order → Bool
+fields_of (Some o) = right_fields o
+fields_of None = true
 
-passed : (p : Parsed) → fields_of (tested p) ≡ true
+passed : (p : Option Order) → fields_of (tested p) ≡ true
 unfolding fields_of
-passed (Right o) = go (right_fields o) refl
+passed (Some o) = go (right_fields o) refl
   where
-    go : (t : Bool) → right_fields o ≡ t → fields_of (tested (Right o)) ≡ true
+    go : (t : Bool) → right_fields o ≡ t → fields_of (tested (Some o)) ≡ true
     go true e = rw (tested-right o e) e
     go false e = rw (tested-wrong o e)
-passed Malformed = rw tested-malformed
+passed None = rw tested-malformed
 
-pub tested-fields : (p : Parsed) (o : Order) → tested p ≡ Right o → right_fields o ≡ true
+pub tested-fields : (p : Option Order) (o : Order) → tested p ≡ Some o → right_fields o ≡ true
 unfolding fields_of
 tested-fields p o e = sym (ap fields_of e) ∙ passed p

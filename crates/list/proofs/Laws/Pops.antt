@@ -9,9 +9,9 @@ use Rattle.words.specs.Names.{pool_fits}
 use Rattle.words.specs.Pool.{outcome}
 use Rattle.words.specs.Listing.{Listing}
 use Rattle.answers.specs.declared.Refusal.TheVariants.{AtNull}
-use Rattle.answers.specs.declared.Answer.TheVariants.{Refused}
+use Rattle.std.specs.Prelude.{Err}
 use Rattle.ends.specs.declared.Ends.{Ends}
-use Rattle.ends.specs.Ends.{is_empty}
+use Rattle.ends.specs.Ends.{is_empty, list_edited}
 use Rattle.ends.proofs.Laws.Holds.{name-null}
 use Rattle.cursor.specs.Cursor.{null_cursor}
 use Rattle.moves.specs.Moves.{moved_next, moved_prev}
@@ -24,13 +24,13 @@ use Rattle.remove.specs.Removes.{removed}
 use Rattle.remove.specs.Plain.{plain_remove}
 use Rattle.cursor.specs.Does.{linked_in}
 use Rattle.remove.proofs.Laws.Remove.{removed-does}
-use Rattle.list.specs.Lists.{list_edited, without_cursor, pop_test, pop_front, pop_back}
+use Rattle.list.specs.Lists.{without_cursor, pop_test, pop_front, pop_back}
 use Rattle.list.specs.Plain.{as_list, plain_pop_front, plain_pop_back, DoesList}
 use Rattle.list.proofs.Laws.Pushes.{sound-null, does-list}
 
 module _ (ws : List ℕ) (e : Ends) (f : pool_fits (length ws) ≡ true) where
   -- of an empty list: 8
-  none-test : Listing bit_xor ws e.head.0 e.tail.0 [] → pop_test ws e ≡ Refused AtNull
+  none-test : Listing bit_xor ws e.head.0 e.tail.0 [] → pop_test ws e ≡ Err AtNull
   unfolding pop_test
   none-test l = rw (sound-ends-test ws e [] f l, ← l.first)
 
@@ -38,7 +38,7 @@ module _ (ws : List ℕ) (e : Ends) (f : pool_fits (length ws) ≡ true) where
   some-test [] x R l = rw (← l.first) (name-null x)
   some-test (y ∷ L) x R l = rw (← l.first) (name-null y)
 
-  front-none : Listing bit_xor ws e.head.0 e.tail.0 [] → pop_front ws e ≡ outcome ws (list_edited (Refused AtNull) e)
+  front-none : Listing bit_xor ws e.head.0 e.tail.0 [] → pop_front ws e ≡ outcome ws (list_edited (Err AtNull) e)
   unfolding pop_front
   front-none l = rw (none-test l)
 
@@ -47,7 +47,7 @@ module _ (ws : List ℕ) (e : Ends) (f : pool_fits (length ws) ≡ true) where
   unfolding pop_front pop_test
   front-some L x R l = rw (sound-ends-test ws e (L ++ x ∷ R) f l, some-test L x R l)
 
-  back_none : Listing bit_xor ws e.head.0 e.tail.0 [] → pop_back ws e ≡ outcome ws (list_edited (Refused AtNull) e)
+  back_none : Listing bit_xor ws e.head.0 e.tail.0 [] → pop_back ws e ≡ outcome ws (list_edited (Err AtNull) e)
   unfolding pop_back
   back_none l = rw (none-test l)
 
@@ -57,7 +57,7 @@ module _ (ws : List ℕ) (e : Ends) (f : pool_fits (length ws) ≡ true) where
   back_some L x R l = rw (sound-ends-test ws e (L ++ x ∷ R) f l, some-test L x R l)
 
   nothing : Listing bit_xor ws e.head.0 e.tail.0 []
-      → DoesList ws [] (outcome ws (list_edited (Refused AtNull) e)) (as_list (plain_remove (linked_in ws) (at_null [])))
+      → DoesList ws [] (outcome ws (list_edited (Err AtNull) e)) (as_list (plain_remove (linked_in ws) (at_null [])))
   nothing l = record { answer = refl; listing = l; marks = λ j. refl; alone = same-alone ws [] [] }
 
   pub pop-front-does : (xs : List ℕ) → Listing bit_xor ws e.head.0 e.tail.0 xs → DoesList ws xs (pop_front ws e) (plain_pop_front (linked_in ws) xs)

@@ -12,7 +12,7 @@ use Rattle.words.specs.Listing.{front, back, Listing}
 use Rattle.links.proofs.Laws.Xor.{xor_comm, xor-twice-l}
 use Rattle.words.proofs.Laws.Pool.{word-name}
 use Rattle.words.proofs.Laws.Chain.{chain-split, back-append}
-use Rattle.answers.specs.declared.Answer.TheVariants.{Done}
+use Rattle.answers.specs.Answer.{done}
 use Rattle.ends.specs.declared.Ends.{Ends}
 use Rattle.ends.specs.Ends.{turned}
 use Rattle.ends.proofs.Laws.Holds.{name-null}
@@ -69,11 +69,11 @@ prev-sound ws e c z s =
 
 -- the calls
 pub move-next-does : (ws : List ℕ) (e : Ends) (c : Cursor) (z : Place) → pool_fits (length ws) ≡ true → Sound ws e c z
-    → (move_next ws e c ≡ edited Done e (moved_next ws e c)) × Sound ws e (moved_next ws e c) (next_place z)
+    → (move_next ws e c ≡ edited done e (moved_next ws e c)) × Sound ws e (moved_next ws e c) (next_place z)
 unfolding move_next
 move-next-does ws e c z f s = (rw (sound-test ws e c z f s), next-sound ws e c z s)
 
 pub move-prev-does : (ws : List ℕ) (e : Ends) (c : Cursor) (z : Place) → pool_fits (length ws) ≡ true → Sound ws e c z
-    → (move_prev ws e c ≡ edited Done e (moved_prev ws e c)) × Sound ws e (moved_prev ws e c) (prev_place z)
+    → (move_prev ws e c ≡ edited done e (moved_prev ws e c)) × Sound ws e (moved_prev ws e c) (prev_place z)
 unfolding move_prev
 move-prev-does ws e c z f s = (rw (sound-test ws e c z f s), prev-sound ws e c z s)

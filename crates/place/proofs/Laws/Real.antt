@@ -12,7 +12,7 @@ use Rattle.words.specs.Names.{pool_fits}
 use Rattle.words.specs.Listing.{All, front, Listing}
 use Rattle.words.proofs.Laws.Nodes.{all_left, all_right, all-reverse}
 use Rattle.words.proofs.Laws.Chain.{front-reverse}
-use Rattle.answers.specs.declared.Answer.TheVariants.{Done}
+use Rattle.answers.specs.Answer.{done}
 use Rattle.ends.specs.declared.Ends.{Ends}
 use Rattle.cursor.specs.Cursor.{edited}
 use Rattle.cursor.specs.Plain.{at, Sound}
@@ -37,11 +37,11 @@ module _ (ws : List ℕ) (e : Ends) (L : List ℕ) (i : Node) (R : List ℕ) (f 
   beyond : All (λ y. y < length ws) R
   beyond = (all_right (λ y. y < length ws) L (i.0 ∷ R) l.ranged).1
 
-  pub real-prev-does : (place_by_prev ws e i (prev_node L) ≡ edited Done e (by_prev ws i (prev_node L))) × Sound ws e (by_prev ws i (prev_node L)) (at L i.0 R)
+  pub real-prev-does : (place_by_prev ws e i (prev_node L) ≡ edited done e (by_prev ws i (prev_node L))) × Sound ws e (by_prev ws i (prev_node L)) (at L i.0 R)
   real-prev-does =
       place-by-prev-does ws e L i R (prev_node L) f l (next_known (length ws) (reverse L) ahead)
       (next-claimed (length ws) (reverse L) f ahead ∙ front-reverse 0 L)
 
-  pub real-next-does : (place_by_next ws e i (next_node R) ≡ edited Done e (by_next ws i (next_node R))) × Sound ws e (by_next ws i (next_node R)) (at L i.0 R)
+  pub real-next-does : (place_by_next ws e i (next_node R) ≡ edited done e (by_next ws i (next_node R))) × Sound ws e (by_next ws i (next_node R)) (at L i.0 R)
   real-next-does =
       place-by-next-does ws e L i R (next_node R) f l (next_known (length ws) R beyond) (next-claimed (length ws) R f beyond)

@@ -2,7 +2,7 @@
 use mathlib.Core.Path.{◌≡◌, sym, ◌∙◌}
 use mathlib.Core.Bool.{true, false, not, ◌&&◌}
 use mathlib.Core.List.{List, []}
-use Prim.Native.Nat.{ℕ, suc, ◌+◌, ◌*◌, ◌-◌, ◌^◌, ◌<◌, ◌≤◌}
+use Prim.Native.Nat.{ℕ, suc, ◌+◌, ◌*◌, ◌^◌, ◌<◌, ◌≤◌}
 use native.Mathlib.Omega.{arith}
 use native.Mathlib.Nat.{mul-le-mul, mul-le-mul_right, suc-mul, mul_comm}
 use lib.Dec.{ltb, leb, eqb}
@@ -10,14 +10,13 @@ use lib.ListN.{length, drop, length-drop}
 use lib.Seq.{length-take-le}
 use borrow.Author.Tests.{ltb-true, leb-true, eqb-true, not-true}
 use Rattle.words.specs.declared.names.Node.{Node}
-use Rattle.words.specs.declared.names.Found.TheVariants.{At, Nothing}
+use Rattle.std.specs.Prelude.{Some, None, Err, is_err}
 use Rattle.words.specs.Names.{node_of, is_name, is_null, pool_fits, decoding}
 use Rattle.words.proofs.Laws.Cases.{both}
 use Rattle.words.proofs.Laws.Names.{fits-small, node-name, decoded, undecoded}
 use Rattle.answers.specs.declared.Refusal.TheVariants.{Size, CursorDoesNotStand, AtNull}
-use Rattle.answers.specs.declared.Answer.TheVariants.{Done, Refused}
 use Rattle.ends.specs.declared.Ends.{Ends}
-use Rattle.answers.specs.Answer.{need, is_refused}
+use Rattle.answers.specs.Answer.{need, passed as accepted}
 use Rattle.ends.specs.Tests.{ends_test}
 use Rattle.answers.proofs.Laws.Ladder.{not-both, passed, passed-both}
 use Rattle.ends.proofs.Laws.Stands.{stands-named}
@@ -53,16 +52,16 @@ pub record Readable (ws : List ℕ) (c : Cursor) (len width : ℕ) : Type 0 wher
   pub sizes : Fits (length ws) width len
   pub here : is_name (length ws) c.current.0 ≡ true
 
-pub readable : (ws : List ℕ) (e : Ends) (c : Cursor) (len width : ℕ) → is_refused (read_test ws e c len width) ≡ false → Readable ws c len width
+pub readable : (ws : List ℕ) (e : Ends) (c : Cursor) (len width : ℕ) → is_err (read_test ws e c len width) ≡ false → Readable ws c len width
 unfolding read_test some_test stand_test
 readable ws e c len width h =
-    let at-node = need (not (is_null c.current)) AtNull Done in
-    let standing = need (cursor_stands ws e c) CursorDoesNotStand Done in
+    let at-node = need (not (is_null c.current)) AtNull accepted in
+    let standing = need (cursor_stands ws e c) CursorDoesNotStand accepted in
     let a = passed (records_fit (length ws) width len) Size (some_test (stand_test ws e c) c) h in
     let b = passed-both (stand_test ws e c) at-node a.1 in
-    let d = passed (not (is_null c.current)) AtNull Done b.1 in
+    let d = passed (not (is_null c.current)) AtNull accepted b.1 in
     let k = passed-both (ends_test ws e) standing b.0 in
-    let s = passed (cursor_stands ws e c) CursorDoesNotStand Done k.1 in
+    let s = passed (cursor_stands ws e c) CursorDoesNotStand accepted k.1 in
     record {
       sizes = fits (length ws) width len a.0;
       here = stands-named ws e c.current.0 c.prev.0 c.next.0 s.0 (not-true (is_null c.current) d.0);
@@ -91,8 +90,8 @@ pub record Located (ws : List ℕ) (c : Cursor) (len width : ℕ) (i : Node) : T
   pub wide : width ≤ 256
   pub inside : i.0 * width + width ≤ len
 
-pub located : (ws : List ℕ) (e : Ends) (c : Cursor) (len width : ℕ) (i : Node) → is_refused (read_test ws e c len width) ≡ false
-    → decoding (length ws) c.current ≡ At i → Located ws c len width i
+pub located : (ws : List ℕ) (e : Ends) (c : Cursor) (len width : ℕ) (i : Node) → is_err (read_test ws e c len width) ≡ false
+    → decoding (length ws) c.current ≡ Some i → Located ws c len width i
 located ws e c len width i h d =
     let r = readable ws e c len width h in
     let k = decoded (length ws) c.current i d in
@@ -105,8 +104,8 @@ located ws e c len width i h d =
     }
 
 -- and there is one
-pub never-nothing : (ws : List ℕ) (e : Ends) (c : Cursor) (len width : ℕ) → is_refused (read_test ws e c len width) ≡ false
-    → decoding (length ws) c.current ≡ Nothing → ⊥
+pub never-nothing : (ws : List ℕ) (e : Ends) (c : Cursor) (len width : ℕ) → is_err (read_test ws e c len width) ≡ false
+    → decoding (length ws) c.current ≡ None → ⊥
 never-nothing ws e c len width h d =
     not-both (sym (readable ws e c len width h).here ∙ undecoded (length ws) c.current d)
 
@@ -120,7 +119,7 @@ module _ (ws : List ℕ) (e : Ends) (c : Cursor) (rs : List ℕ) (width : ℕ) (
       (both (pool_fits (length ws) && leb width 256) (ltb 0 width && eqb (length rs) (width * length ws)) f).0).0
 
   -- at a node the read is done
-  pub read_done : (L : List ℕ) (x : ℕ) (R : List ℕ) → Sound ws e c (at L x R) → read_test ws e c (length rs) width ≡ Done
+  pub read_done : (L : List ℕ) (x : ℕ) (R : List ℕ) → Sound ws e c (at L x R) → read_test ws e c (length rs) width ≡ accepted
   unfolding read_test some_test
   read_done L x R s =
       let n : is_null c.current ≡ false = rw s.place.0 (name-null x) in
@@ -139,7 +138,7 @@ module _ (ws : List ℕ) (e : Ends) (c : Cursor) (rs : List ℕ) (width : ℕ) (
       length-take-le width (drop (x * width) rs) (rw (length-drop (x * width) rs) (omega arith))
 
   -- at null it is refused 8
-  pub read-null : (xs : List ℕ) → Sound ws e c (at_null xs) → read_test ws e c (length rs) width ≡ Refused AtNull
+  pub read-null : (xs : List ℕ) → Sound ws e c (at_null xs) → read_test ws e c (length rs) width ≡ Err AtNull
   unfolding read_test some_test
   read-null xs s = let n : is_null c.current ≡ true = rw s.place.0 in rw (f, sound-test ws e c (at_null xs) pool-fits s, n)
 

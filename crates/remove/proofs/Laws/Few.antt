@@ -5,14 +5,12 @@ use lib.Dec.{lit≤}
 use Rattle.words.specs.declared.names.Node.{Node}
 use Rattle.words.specs.Names.{naming}
 use Rattle.words.specs.Changes.{AtMostFour}
-use Rattle.words.proofs.Laws.Pool.{few-unless}
 use Rattle.links.proofs.Laws.Cuts.{taken_out, taken-changes, exchanged, exchanged-changes}
 use Rattle.ends.specs.declared.Ends.{Ends}
-use Rattle.answers.specs.Answer.{is_refused}
 use Rattle.cursor.specs.declared.Cursor.{Cursor}
 use Rattle.cursor.specs.Cursor.{stand_test, node_test, some_test, acquire_node}
 use Rattle.remove.specs.Removes.{removed, remove, replaced, replace}
-use Rattle.cursor.proofs.Laws.Few.{acquire-steps}
+use Rattle.cursor.proofs.Laws.Few.{acquire-steps, few-refused}
 
 pub removed-few : (ws : List ℕ) (e : Ends) (c : Cursor) → AtMostFour ws (removed ws e c).words
 unfolding removed taken_out
@@ -21,7 +19,7 @@ removed-few ws e c =
 
 pub remove-few : (ws : List ℕ) (e : Ends) (c : Cursor) → AtMostFour ws (remove ws e c).words
 unfolding remove
-remove-few ws e c = few-unless (is_refused (some_test (stand_test ws e c) c)) ws _ _ (removed-few ws e c)
+remove-few ws e c = few-refused (some_test (stand_test ws e c) c) ws _ _ (removed-few ws e c)
 
 pub replace-few : (ws : List ℕ) (e : Ends) (c : Cursor) (i : Node) → AtMostFour ws (replace ws e c i).words
 unfolding replace replaced exchanged

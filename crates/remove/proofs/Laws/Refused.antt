@@ -4,13 +4,10 @@ use mathlib.Core.Path.{◌≡◌, refl}
 use mathlib.Core.Bool.{false}
 use mathlib.Core.List.{List}
 use Prim.Native.Nat.{ℕ}
-use lib.ListN.{length}
 use Rattle.words.specs.declared.names.Node.{Node}
-use Rattle.words.specs.declared.names.Found.{Found}
-use Rattle.words.specs.declared.names.Found.TheVariants.{At, Nothing}
-use Rattle.words.specs.Names.{naming, decoding}
+use Rattle.words.specs.Names.{naming}
 use Rattle.ends.specs.declared.Ends.{Ends}
-use Rattle.answers.specs.Answer.{is_refused, handing}
+use Rattle.std.specs.Prelude.{is_err}
 use Rattle.cursor.specs.declared.Cursor.{Cursor}
 use Rattle.cursor.specs.Cursor.{stand_test, node_test, some_test, acquire_node}
 use Rattle.remove.specs.Removes.{removed, remove, replaced, replace}
@@ -18,13 +15,9 @@ use Rattle.cursor.proofs.Laws.Refused.{Unchanged, unless, acquired}
 
 -- ---- the steps are never refused
 
-handing-done : (f : Found) → is_refused (handing f) ≡ false
-handing-done (At i) = refl
-handing-done Nothing = refl
-
-pub removed-done : (ws : List ℕ) (e : Ends) (c : Cursor) → is_refused (removed ws e c).result.answer ≡ false
+pub removed-done : (ws : List ℕ) (e : Ends) (c : Cursor) → is_err (removed ws e c).result.answer ≡ false
 unfolding removed
-removed-done ws e c = handing-done (decoding (length ws) c.current)
+removed-done ws e c = refl
 
 -- ---- the calls
 
@@ -38,4 +31,4 @@ unfolding replace replaced
 replace-unchanged ws e c i =
     let t = some_test (node_test ws e c i) c in
     let l = (acquire_node ws t (naming i)).words in
-    acquired ws e c t (naming i) (replaced l e c (naming i)) (handing-done (decoding (length l) c.current))
+    acquired ws e c t (naming i) (replaced l e c (naming i)) refl

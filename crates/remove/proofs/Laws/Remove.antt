@@ -20,9 +20,9 @@ use Rattle.words.proofs.Laws.Outside.{Outside, covered-here, covered_more, cover
 use Rattle.links.proofs.Laws.XorListing.{xor-listing-linked}
 use Rattle.links.proofs.Laws.Cuts.{sides, taken_out, taken-out, taken_word, taken-changes}
 use Rattle.answers.specs.declared.Refusal.TheVariants.{AtNull}
-use Rattle.answers.specs.declared.Answer.TheVariants.{Handed, Refused}
+use Rattle.std.specs.Prelude.{Some, Ok, Err}
 use Rattle.ends.specs.declared.Ends.{Ends}
-use Rattle.answers.specs.Answer.{handing}
+use Rattle.answers.specs.Answer.{Answer}
 use Rattle.ends.specs.Ends.{ends_of}
 use Rattle.ends.proofs.Laws.Holds.{name-null}
 use Rattle.cursor.specs.declared.Cursor.{Cursor}
@@ -38,7 +38,8 @@ use Rattle.cursor.proofs.Laws.Common.{marks-unlinking, refused-does}
 use Rattle.cursor.proofs.Laws.Swap.{head-swap, tail-swap, all-out}
 
 -- the node under a true cursor is handed out
-pub hands_out : (n : ℕ) (w : Name) (x : ℕ) → x < n → w.0 ≡ name x → handing (decoding n w) ≡ Handed (record { 0 = x })
+pub hands_out : (n : ℕ) (w : Name) (x : ℕ) → x < n → w.0 ≡ name x
+    → ◌≡◌ {A = Answer} (Ok (decoding n w)) (Ok (Some (record { 0 = x })))
 unfolding decoding
 hands_out n w x r e = rw (e, name-is n x r, node-name x)
 
@@ -112,11 +113,11 @@ unfolding remove some_test
 node_call ws e c L x R f s = let n : is_null c.current ≡ false = rw s.place.0 (name-null x) in rw (sound-test ws e c (at L x R) f s, n)
 
 null-call : (ws : List ℕ) (e : Ends) (c : Cursor) (xs : List ℕ) → pool_fits (length ws) ≡ true → Sound ws e c (at_null xs)
-    → remove ws e c ≡ outcome ws (edited (Refused AtNull) e c)
+    → remove ws e c ≡ outcome ws (edited (Err AtNull) e c)
 unfolding remove some_test
 null-call ws e c xs f s = let n : is_null c.current ≡ true = rw s.place.0 in rw (sound-test ws e c (at_null xs) f s, n)
 
-answer-is : (ws : List ℕ) (e : Ends) (c : Cursor) → (removed ws e c).result.answer ≡ handing (decoding (length ws) c.current)
+answer-is : (ws : List ℕ) (e : Ends) (c : Cursor) → (removed ws e c).result.answer ≡ Ok (decoding (length ws) c.current)
 unfolding removed
 answer-is ws e c = refl
 
@@ -141,4 +142,4 @@ removed-does ws e c L x R s =
 pub remove-does : (ws : List ℕ) (e : Ends) (c : Cursor) (z : Place) → pool_fits (length ws) ≡ true → Sound ws e c z
     → Does ws z (remove ws e c) (plain_remove (linked_in ws) z)
 remove-does ws e c (at L x R) f s = rw (node_call ws e c L x R f s) (removed-does ws e c L x R s)
-remove-does ws e c (at_null xs) f s = refused-does ws e c (at_null xs) s _ _ (Refused AtNull) (null-call ws e c xs f s) refl
+remove-does ws e c (at_null xs) f s = refused-does ws e c (at_null xs) s _ _ (Err AtNull) (null-call ws e c xs f s) refl

@@ -21,7 +21,7 @@ use Rattle.words.proofs.Laws.Outside.{Outside, covered-here, covered_more, cover
 use Rattle.links.proofs.Laws.XorListing.{xor-listing-linked}
 use Rattle.links.proofs.Laws.Cuts.{sides, exchanged, exchanged-listing, exchanged-word, exchanged-changes}
 use Rattle.answers.specs.declared.Refusal.TheVariants.{NoSuchNode, AtNull, AlreadyLinked}
-use Rattle.answers.specs.declared.Answer.TheVariants.{Handed, Refused}
+use Rattle.std.specs.Prelude.{Some, Ok, Err}
 use Rattle.ends.specs.declared.Ends.{Ends}
 use Rattle.ends.proofs.Laws.Holds.{name-null}
 use Rattle.cursor.specs.declared.Cursor.{Cursor}
@@ -55,7 +55,7 @@ module _ (ws : List ℕ) (e : Ends) (c : Cursor) (L : List ℕ) (x : ℕ) (R : L
         place = (refl, s.place.1, s.place.2);
       }
 
-  replaced-answer : (replaced ws e c (named i)).result.answer ≡ Handed (record { 0 = x })
+  replaced-answer : (replaced ws e c (named i)).result.answer ≡ Ok (Some (record { 0 = x }))
   unfolding replaced
   replaced-answer =
       hands_out (length ws) c.current x (sides ws e.head.0 e.tail.0 L x R s.listing).here s.place.0
@@ -98,16 +98,16 @@ marks-exchanged ws ws' xs x i out xi off old new gone =
 
 module _ (ws : List ℕ) (e : Ends) (c : Cursor) (z : Place) (i : Node) (f : pool_fits (length ws) ≡ true) (s : Sound ws e c z) where
   -- how it comes out, by its tests
-  call-past : ltb i.0 (length ws) ≡ false → replace ws e c i ≡ outcome ws (edited (Refused NoSuchNode) e c)
+  call-past : ltb i.0 (length ws) ≡ false → replace ws e c i ≡ outcome ws (edited (Err NoSuchNode) e c)
   unfolding replace some_test
   call-past h = rw (sound-node-test ws e c z i f s, h, acquire-refused ws NoSuchNode (naming i))
 
-  call-null : ltb i.0 (length ws) ≡ true → is_null c.current ≡ true → replace ws e c i ≡ outcome ws (edited (Refused AtNull) e c)
+  call-null : ltb i.0 (length ws) ≡ true → is_null c.current ≡ true → replace ws e c i ≡ outcome ws (edited (Err AtNull) e c)
   unfolding replace some_test
   call-null h n = rw (sound-node-test ws e c z i f s, h, n, acquire-refused ws AtNull (naming i))
 
   call-taken : ltb i.0 (length ws) ≡ true → is_null c.current ≡ false → linked_in ws i.0 ≡ true
-      → replace ws e c i ≡ outcome ws (edited (Refused AlreadyLinked) e c)
+      → replace ws e c i ≡ outcome ws (edited (Err AlreadyLinked) e c)
   unfolding replace some_test
   call-taken h n l =
       rw (sound-node-test ws e c z i f s, h, n, naming-in (length ws) i f (ltb-true i.0 (length ws) h), acquire-linked ws i.0 l)
@@ -124,13 +124,13 @@ module _ (ws : List ℕ) (e : Ends) (c : Cursor) (i : Node) (f : pool_fits (leng
   null-does xs s = go (ltb i.0 (length ws)) refl
     where
       go : (a : Bool) → ltb i.0 (length ws) ≡ a → Does ws (at_null xs) (replace ws e c i) (plain_replace (length ws) (linked_in ws) i.0 (at_null xs))
-      go false h = refused-does ws e c (at_null xs) s _ _ (Refused NoSuchNode) (call-past ws e c (at_null xs) i f s h) (rw h)
-      go true h = refused-does ws e c (at_null xs) s _ _ (Refused AtNull) (call-null ws e c (at_null xs) i f s h (rw s.place.0)) (rw h)
+      go false h = refused-does ws e c (at_null xs) s _ _ (Err NoSuchNode) (call-past ws e c (at_null xs) i f s h) (rw h)
+      go true h = refused-does ws e c (at_null xs) s _ _ (Err AtNull) (call-null ws e c (at_null xs) i f s h (rw s.place.0)) (rw h)
 
   module _ (L : List ℕ) (x : ℕ) (R : List ℕ) (s : Sound ws e c (at L x R)) where
     node-free : ltb i.0 (length ws) ≡ true → linked_in ws i.0 ≡ false
         → Does ws (at L x R) (replaced (put_at ws (name i.0) 0) e c (named i.0))
-        (plain (Handed (record { 0 = x })) (at L i.0 R) (linking i.0 (unlinking x (linked_in ws))))
+        (plain (Ok (Some (record { 0 = x }))) (at L i.0 R) (linking i.0 (unlinking x (linked_in ws))))
     node-free h l =
         let m = i.0 in
         let ws1 = put_at ws (name m) 0 in
@@ -167,8 +167,8 @@ module _ (ws : List ℕ) (e : Ends) (c : Cursor) (i : Node) (f : pool_fits (leng
 
         go : (a : Bool) → ltb i.0 (length ws) ≡ a → (b : Bool) → linked_in ws i.0 ≡ b
             → Does ws (at L x R) (replace ws e c i) (plain_replace (length ws) (linked_in ws) i.0 (at L x R))
-        go false h b l = refused-does ws e c (at L x R) s _ _ (Refused NoSuchNode) (call-past ws e c (at L x R) i f s h) (rw h)
-        go true h true l = refused-does ws e c (at L x R) s _ _ (Refused AlreadyLinked) (call-taken ws e c (at L x R) i f s h n l) (rw (h, l))
+        go false h b l = refused-does ws e c (at L x R) s _ _ (Err NoSuchNode) (call-past ws e c (at L x R) i f s h) (rw h)
+        go true h true l = refused-does ws e c (at L x R) s _ _ (Err AlreadyLinked) (call-taken ws e c (at L x R) i f s h n l) (rw (h, l))
         go true h false l = rw (call-free ws e c (at L x R) i f s h n l, h, l) (node-free h l)
 
   pub replace-does : (z : Place) → Sound ws e c z → Does ws z (replace ws e c i) (plain_replace (length ws) (linked_in ws) i.0 z)

@@ -9,6 +9,7 @@ use lib.Dec.{eqb}
 use lib.ListN.{length, get_or, drop, length-append, drop_of_length-le}
 use lib.Seq.{drop-cons}
 use borrow.Author.Tests.{ne_eqb}
+use mir.Val.{bool_byte}
 use Rattle.lines.specs.Inputs.{lines_from, lines_of}
 
 -- the lines that are left, by whether one is begun
@@ -48,9 +49,10 @@ left-next t cs i h = rw (add-one, drop-cons cs i 0)
 pub left_end : (t : Bool) (cs : List ℕ) (i : ℕ) → length cs ≤ i → left t (drop i cs) ≡ cond t 1 0
 left_end t cs i h = rw (drop_of_length-le cs h)
 
-pub at_most_one : (t : Bool) → cond t 1 0 ≤ 1
-at_most_one true = omega arith
-at_most_one false = omega arith
+-- 1 for a test that passes, 0 for one that fails
+pub one_if : (t : Bool) (n : ℕ) → n ≡ bool_byte t → (n ≡ cond t 1 0) × (n ≤ 1)
+one_if true n e = (e, omega arith)
+one_if false n e = (e, omega arith)
 
 -- never more lines than bytes
 at_most : (bs : List ℕ) (t : Bool) → left t bs ≤ cond t 1 0 + length bs

@@ -1,5 +1,5 @@
 -- What the entry writes are the history's answers. Assumes nothing.
-use Prim.Native.Nat.{ℕ, suc, ◌+◌, ◌*◌, ◌<◌, ◌≤◌}
+use Prim.Native.Nat.{ℕ, suc, ◌*◌, ◌<◌, ◌≤◌}
 use mathlib.Core.Path.{◌≡◌, refl, sym, ap, ◌∙◌}
 use mathlib.Core.List.{List, [], ◌∷◌, ◌++◌, map}
 use native.Mathlib.Omega.{arith}
@@ -8,7 +8,8 @@ use lib.ListN.{length, drop, length-append, length-map}
 use borrow.Author.Tests.{le-leb, lt-leb}
 use Rattle.words.specs.Names.{directory_limit}
 use Rattle.lines.specs.declared.line.Line.{Line}
-use Rattle.lines.specs.declared.line.Parsed.{Parsed}
+use Rattle.lines.specs.declared.line.Order.{Order}
+use Rattle.std.specs.Prelude.{Option}
 use Rattle.lines.specs.Lines.{line_of, fresh}
 use Rattle.lines.specs.Inputs.{lines_of}
 use Rattle.lines.specs.Answers.{reply, answer_line}
@@ -30,7 +31,7 @@ unfolding bytes_of_all answer_line
 bytes-length [] = refl
 bytes-length (r ∷ rs) = rw (length-append (bytes_of r) (bytes_of_all rs)) (omega (arith, bytes-length rs))
 
-answers-counted : (ps : List Parsed) (h : History) → length (plain_answers 1024 h ps) ≡ length ps
+answers-counted : (ps : List (Option Order)) (h : History) → length (plain_answers 1024 h ps) ≡ length ps
 unfolding plain_answers
 answers-counted [] h = refl
 answers-counted (p ∷ ps) h = ap suc (answers-counted ps (plain_step 1024 h p).history)
@@ -45,7 +46,7 @@ answers-length cs =
 
 -- ---- the desk's answers are the history's
 
-answers-told : (ps : List Parsed) → answer_all (fresh_desk 1024 8) no_marks ps ≡ plain_answers 1024 (start 8) ps
+answers-told : (ps : List (Option Order)) → answer_all (fresh_desk 1024 8) no_marks ps ≡ plain_answers 1024 (start 8) ps
 unfolding desk_limit directory_limit no_marks
 answers-told ps = answers-are 1024 (lit≤ tt) 8 (lit≤ tt) no_marks refl ps
 

@@ -1,13 +1,14 @@
 -- How many lists a slice has, and what is stored in it and read from it. Assumes nothing.
 use mathlib.Core.Path.{◌≡◌, refl, sym, ap, ◌∙◌}
-use mathlib.Core.List.{List, [], ◌∷◌}
+use mathlib.Core.List.{List, [], ◌∷◌, ◌++◌}
 use Prim.Native.Nat.{ℕ, zero, suc, ◌+◌, ◌*◌, ◌/◌, ◌<◌, ◌≤◌}
 use native.Mathlib.Omega.{arith}
-use lib.ListN.{length, get_or, set, drop, length-set, get_or-eq_default}
+use lib.ListN.{length, get_or, set, take, drop, length-set, get_or-eq_default}
 use lib.Seq.{set_out}
+use Rattle.std.specs.Simd.{first_chunks}
 use Rattle.desk.specs.declared.Row.{Row}
 use Rattle.desk.specs.Step.{fresh_row}
-use Rattle.rows.specs.Rows.{row_of, rows_of, laid}
+use Rattle.rows.specs.Rows.{row_of, words_of, rows_of, laid}
 
 -- five words a list
 pub count-rows : (ws : List ℕ) → length (rows_of ws) ≡ length ws / 5
@@ -23,22 +24,18 @@ count-rows (a ∷ b ∷ c ∷ d ∷ e ∷ ws) = let i = count-rows ws in omega a
 list_on : (i : ℕ) → 5 * suc i ≡ suc (suc (suc (suc (suc (5 * i)))))
 list_on i = omega arith
 
-further : (i k : ℕ) → 5 * suc i + k ≡ suc (suc (suc (suc (suc (5 * i + k)))))
-further i k = omega arith
-
--- a list that is there has its five words in the slice
-pub row-there : (ws : List ℕ) (i : ℕ) → i < length (rows_of ws)
-    → get_or (rows_of ws) i fresh_row
-    ≡ row_of (get_or ws (5 * i) 0) (get_or ws (5 * i + 1) 0) (get_or ws (5 * i + 2) 0) (get_or ws (5 * i + 3) 0) (get_or ws (5 * i + 4) 0)
+-- a list that is there has the five words of its part
+pub row-there : (ws : List ℕ) (n i : ℕ) (x : List ℕ) → n ≡ length (rows_of ws) → i < n → get_or (first_chunks 5 n ws) i [] ≡ x
+    → row_of (get_or x 0 0) (get_or x 1 0) (get_or x 2 0) (get_or x 3 0) (get_or x 4 0) ≡ get_or (rows_of ws) i fresh_row
 unfolding rows_of
-row-there [] i h = absurd (omega arith)
-row-there (a ∷ []) i h = absurd (omega arith)
-row-there (a ∷ b ∷ []) i h = absurd (omega arith)
-row-there (a ∷ b ∷ c ∷ []) i h = absurd (omega arith)
-row-there (a ∷ b ∷ c ∷ d ∷ []) i h = absurd (omega arith)
-row-there (a ∷ b ∷ c ∷ d ∷ e ∷ ws) zero h = refl
-row-there (a ∷ b ∷ c ∷ d ∷ e ∷ ws) (suc i) h =
-    rw (further i 1, further i 2, further i 3, further i 4, list_on i) (row-there ws i (omega arith))
+row-there ws zero i x e h p = absurd (omega arith)
+row-there [] (suc n) i x e h p = absurd (omega arith)
+row-there (a ∷ []) (suc n) i x e h p = absurd (omega arith)
+row-there (a ∷ b ∷ []) (suc n) i x e h p = absurd (omega arith)
+row-there (a ∷ b ∷ c ∷ []) (suc n) i x e h p = absurd (omega arith)
+row-there (a ∷ b ∷ c ∷ d ∷ []) (suc n) i x e h p = absurd (omega arith)
+row-there (a ∷ b ∷ c ∷ d ∷ f ∷ ws) (suc n) zero x e h p = rw (← p) refl
+row-there (a ∷ b ∷ c ∷ d ∷ f ∷ ws) (suc n) (suc i) x e h p = row-there ws n i x (omega arith) (omega arith) p
 
 -- lists that have not changed leave the slice as it was
 pub laid-own : (ws : List ℕ) → laid (rows_of ws) ws ≡ ws
@@ -50,13 +47,9 @@ laid-own (a ∷ b ∷ c ∷ []) = refl
 laid-own (a ∷ b ∷ c ∷ d ∷ []) = refl
 laid-own (a ∷ b ∷ c ∷ d ∷ e ∷ ws) = ap (λ (l : List ℕ). a ∷ b ∷ c ∷ d ∷ e ∷ l) (laid-own ws)
 
--- the slice with the five words of list i stored one after the other
-abbrev pub stored : List ℕ → ℕ → Row → List ℕ
-stored ws i r =
-    set (set (set (set (set ws (5 * i) r.ends.head.0) (5 * i + 1) r.ends.tail.0) (5 * i + 2) r.cursor.current.0)
-    (5 * i + 3) r.cursor.prev.0) (5 * i + 4) r.cursor.next.0
-
-laid-set : (ws : List ℕ) (i : ℕ) (r : Row) → i < length (rows_of ws) → laid (set (rows_of ws) i r) ws ≡ stored ws i r
+-- the slice with the five words of list i stored
+laid-set : (ws : List ℕ) (i : ℕ) (r : Row) → i < length (rows_of ws)
+    → laid (set (rows_of ws) i r) ws ≡ take (5 * i) ws ++ (words_of r ++ drop 5 (drop (5 * i) ws))
 unfolding rows_of laid
 laid-set [] i r h = absurd (omega arith)
 laid-set (a ∷ []) i r h = absurd (omega arith)
@@ -65,7 +58,7 @@ laid-set (a ∷ b ∷ c ∷ []) i r h = absurd (omega arith)
 laid-set (a ∷ b ∷ c ∷ d ∷ []) i r h = absurd (omega arith)
 laid-set (a ∷ b ∷ c ∷ d ∷ e ∷ ws) zero r h = rw (laid-own ws)
 laid-set (a ∷ b ∷ c ∷ d ∷ e ∷ ws) (suc i) r h =
-    rw (further i 1, further i 2, further i 3, further i 4, list_on i) (ap (λ (l : List ℕ). a ∷ b ∷ c ∷ d ∷ e ∷ l) (laid-set ws i r (omega arith)))
+    rw (list_on i) (ap (λ (l : List ℕ). a ∷ b ∷ c ∷ d ∷ e ∷ l) (laid-set ws i r (omega arith)))
 
 -- what is stored is read again, and the slice keeps its length
 pub rows-laid : (rs : List Row) (ws : List ℕ) → length rs ≡ length (rows_of ws) → rows_of (laid rs ws) ≡ rs
@@ -114,20 +107,16 @@ laid-two ws m l q r vs first =
 -- ---- by the count that a test knows
 
 module _ (ws : List ℕ) (n i : ℕ) (few : n ≡ length (rows_of ws)) where
-  -- the last word of a list that is there
-  pub last_word : i < n → 5 * i + 4 < length ws
+  -- the end of a list that is there
+  pub last_word : i < n → 5 * i + 5 ≤ length ws
   last_word h = let e = count-rows ws in omega arith
 
   pub no_row : n ≤ i → get_or (rows_of ws) i fresh_row ≡ fresh_row
   no_row h = get_or-eq_default (rows_of ws) fresh_row (omega arith)
 
-  pub a-row : i < n → (r : Row)
-      → r ≡ row_of (get_or ws (5 * i) 0) (get_or ws (5 * i + 1) 0) (get_or ws (5 * i + 2) 0) (get_or ws (5 * i + 3) 0) (get_or ws (5 * i + 4) 0)
-      → r ≡ get_or (rows_of ws) i fresh_row
-  a-row h r e = e ∙ sym (row-there ws i (omega arith))
-
   pub none-put : n ≤ i → (r : Row) → ws ≡ laid (set (rows_of ws) i r) ws
   none-put h r = sym (ap (λ (rs : List Row). laid rs ws) (set_out (rows_of ws) i r (omega arith)) ∙ laid-own ws)
 
-  pub row_put : i < n → (r : Row) → stored ws i r ≡ laid (set (rows_of ws) i r) ws
-  row_put h r = sym (laid-set ws i r (omega arith))
+  pub row_put : i < n → (r : Row) (k : ℕ) → k ≡ 5
+      → take (5 * i) ws ++ (words_of r ++ drop k (drop (5 * i) ws)) ≡ laid (set (rows_of ws) i r) ws
+  row_put h r k five = rw five (sym (laid-set ws i r (omega arith)))

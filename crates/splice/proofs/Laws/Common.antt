@@ -11,7 +11,7 @@ use Rattle.words.specs.Pool.{Outcome, outcome}
 use Rattle.words.specs.Listing.{All, Off, Apart, Listing}
 use Rattle.words.proofs.Laws.Nodes.{all_map, all_both, all_append}
 use Rattle.words.proofs.Laws.Outside.{Outside, marks-agree}
-use Rattle.answers.specs.declared.Answer.{Answer}
+use Rattle.answers.specs.Answer.{Answer}
 use Rattle.ends.specs.declared.Ends.{Ends}
 use Rattle.ends.specs.Ends.{is_empty}
 use Rattle.ends.proofs.Laws.Holds.{name-null}

@@ -14,7 +14,7 @@ use Rattle.words.proofs.Laws.Nodes.{all_map, all_append, all_left, all_right, al
 use Rattle.words.proofs.Laws.Chain.{back_last, last_of}
 use Rattle.links.proofs.Laws.Between.{splice-mirror}
 use Rattle.links.proofs.Laws.XorListing.{xor-listing-reverse}
-use Rattle.answers.specs.declared.Answer.TheVariants.{Done}
+use Rattle.answers.specs.Answer.{done}
 use Rattle.ends.specs.declared.Ends.{Ends}
 use Rattle.ends.specs.Ends.{ends_of, empty_ends, is_empty, turned}
 use Rattle.ends.proofs.Laws.Holds.{name-null}
@@ -46,12 +46,12 @@ unfolding spliced_before spliced_after
 spliced-mirror ws e c o = go (is_null c.current) (splice-mirror ws o.head.0 o.tail.0 c.prev.0 c.current.0)
   where
     go : (b : Bool) {w w' : List ℕ} → w ≡ w'
-        → outcome w (cond b (edited_two Done (ends_of (cond (eqb e.head.0 c.current.0) o.head e.head) o.tail)
+        → outcome w (cond b (edited_two done (ends_of (cond (eqb e.head.0 c.current.0) o.head e.head) o.tail)
         (null_cursor (ends_of (cond (eqb e.head.0 c.current.0) o.head e.head) o.tail)) empty_ends)
-        (edited_two Done (ends_of (cond (eqb e.head.0 c.current.0) o.head e.head) e.tail) (cursor_of c.current o.tail c.next) empty_ends))
-        ≡ turned_edited_two (outcome w' (cond b (edited_two Done (ends_of o.tail (cond (eqb e.head.0 c.current.0) o.head e.head))
+        (edited_two done (ends_of (cond (eqb e.head.0 c.current.0) o.head e.head) e.tail) (cursor_of c.current o.tail c.next) empty_ends))
+        ≡ turned_edited_two (outcome w' (cond b (edited_two done (ends_of o.tail (cond (eqb e.head.0 c.current.0) o.head e.head))
         (null_cursor (ends_of o.tail (cond (eqb e.head.0 c.current.0) o.head e.head))) empty_ends)
-        (edited_two Done (ends_of e.tail (cond (eqb e.head.0 c.current.0) o.head e.head)) (cursor_of c.current c.next o.tail) empty_ends)))
+        (edited_two done (ends_of e.tail (cond (eqb e.head.0 c.current.0) o.head e.head)) (cursor_of c.current c.next o.tail) empty_ends)))
     go true p = rw p
     go false p = rw p
 
@@ -95,7 +95,7 @@ module _ (ws : List ℕ) (e : Ends) (c : Cursor) (o : Ends) (f : pool_fits (leng
   unfolding splice_before
   before-some z y ys s l = rw (sound-pair ws e c z o (y ∷ ys) f s l, some_is ws o y ys l)
 
-  before-none : (z : Place) → Sound ws e c z → Listing bit_xor ws o.head.0 o.tail.0 [] → splice_before ws e c o ≡ outcome ws (edited_two Done e c o)
+  before-none : (z : Place) → Sound ws e c z → Listing bit_xor ws o.head.0 o.tail.0 [] → splice_before ws e c o ≡ outcome ws (edited_two done e c o)
   unfolding splice_before
   before-none z s l = rw (sound-pair ws e c z o [] f s l, empty-is ws o l)
 
@@ -107,9 +107,9 @@ module _ (ws : List ℕ) (e : Ends) (c : Cursor) (o : Ends) (f : pool_fits (leng
   pub splice-before-does : (z : Place) (ys : List ℕ) → Sound ws e c z → Listing bit_xor ws o.head.0 o.tail.0 ys → Apart (nodes z) ys
       → DoesTwo ws z ys (splice_before ws e c o) (plain_splice_before ys z)
   splice-before-does (at L x R) [] s l a =
-      same-does ws e c (at L x R) o [] s l _ _ Done (before-none (at L x R) s l) (rw (append-nil L))
+      same-does ws e c (at L x R) o [] s l _ _ done (before-none (at L x R) s l) (rw (append-nil L))
   splice-before-does (at_null xs) [] s l a =
-      same-does ws e c (at_null xs) o [] s l _ _ Done (before-none (at_null xs) s l) (rw (append-nil xs))
+      same-does ws e c (at_null xs) o [] s l _ _ done (before-none (at_null xs) s l) (rw (append-nil xs))
   splice-before-does z (y ∷ ys) s l a =
       let m = sound-mirror ws e c z s in
       let k = xor-listing-reverse ws o.head.0 o.tail.0 (y ∷ ys) l in

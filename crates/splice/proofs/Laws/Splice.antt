@@ -17,7 +17,7 @@ use Rattle.words.proofs.Laws.Outside.{Outside, covered-null, covered-here, cover
 use Rattle.links.proofs.Laws.XorListing.{xor-listing-linked}
 use Rattle.links.proofs.Laws.Between.{spliced, splice-changes}
 use Rattle.links.proofs.Laws.Cuts.{sides}
-use Rattle.answers.specs.declared.Answer.TheVariants.{Done}
+use Rattle.answers.specs.Answer.{done}
 use Rattle.ends.specs.declared.Ends.{Ends}
 use Rattle.ends.specs.Ends.{ends_of, empty_ends}
 use Rattle.ends.proofs.Laws.Holds.{name-null}
@@ -42,7 +42,7 @@ module _ (ws : List ℕ) (e : Ends) (c : Cursor) (o : Ends) (y : ℕ) (ys : List
   module _ (L : List ℕ) (x : ℕ) (R : List ℕ) (s : Sound ws e c (at L x R)) where
     node-is : spliced_after ws e c o
         ≡ outcome (splice_between ws o.head.0 o.tail.0 c.current.0 c.next.0)
-        (edited_two Done (ends_of e.head (cond (eqb e.tail.0 c.current.0) o.tail e.tail)) (cursor_of c.current c.prev o.head) empty_ends)
+        (edited_two done (ends_of e.head (cond (eqb e.tail.0 c.current.0) o.tail e.tail)) (cursor_of c.current c.prev o.head) empty_ends)
     unfolding spliced_after
     node-is = let n : is_null c.current ≡ false = rw s.place.0 (name-null x) in rw n
 
@@ -72,7 +72,7 @@ module _ (ws : List ℕ) (e : Ends) (c : Cursor) (o : Ends) (y : ℕ) (ys : List
   module _ (xs : List ℕ) (s : Sound ws e c (at_null xs)) where
     null_is : spliced_after ws e c o
         ≡ outcome (splice_between ws o.head.0 o.tail.0 c.current.0 c.next.0)
-        (edited_two Done (ends_of o.head (cond (eqb e.tail.0 c.current.0) o.tail e.tail))
+        (edited_two done (ends_of o.head (cond (eqb e.tail.0 c.current.0) o.tail e.tail))
         (null_cursor (ends_of o.head (cond (eqb e.tail.0 c.current.0) o.tail e.tail))) empty_ends)
     unfolding spliced_after
     null_is = let n : is_null c.current ≡ true = rw s.place.0 in rw n
@@ -132,7 +132,7 @@ all-joined P (at L x R) ys h =
 all-joined P (at_null xs) ys h = all_append P xs ys (all_right P ys xs h) (all_left P ys xs h)
 
 module _ (ws : List ℕ) (e : Ends) (c : Cursor) (o : Ends) (f : pool_fits (length ws) ≡ true) where
-  call-empty : (z : Place) → Sound ws e c z → Listing bit_xor ws o.head.0 o.tail.0 [] → splice_after ws e c o ≡ outcome ws (edited_two Done e c o)
+  call-empty : (z : Place) → Sound ws e c z → Listing bit_xor ws o.head.0 o.tail.0 [] → splice_after ws e c o ≡ outcome ws (edited_two done e c o)
   unfolding splice_after
   call-empty z s l = rw (sound-pair ws e c z o [] f s l, empty-is ws o l)
 
@@ -146,23 +146,23 @@ module _ (ws : List ℕ) (e : Ends) (c : Cursor) (o : Ends) (f : pool_fits (leng
   sound-joined (at L x R) y ys s l a = node-sound ws e c o y ys l L x R s a
   sound-joined (at_null xs) y ys s l a = null-sound ws e c o y ys l xs s a
 
-  done : (z : Place) → Sound ws e c z → ((spliced_after ws e c o).result.answer ≡ Done) × ((spliced_after ws e c o).result.other ≡ empty_ends)
+  is-done : (z : Place) → Sound ws e c z → ((spliced_after ws e c o).result.answer ≡ done) × ((spliced_after ws e c o).result.other ≡ empty_ends)
   unfolding spliced_after
-  done (at L x R) s = let n : is_null c.current ≡ false = rw s.place.0 (name-null x) in rw n (refl, refl)
-  done (at_null xs) s = let n : is_null c.current ≡ true = rw s.place.0 in rw n (refl, refl)
+  is-done (at L x R) s = let n : is_null c.current ≡ false = rw s.place.0 (name-null x) in rw n (refl, refl)
+  is-done (at_null xs) s = let n : is_null c.current ≡ true = rw s.place.0 in rw n (refl, refl)
 
-  plain-is : (z : Place) (ys : List ℕ) → ((plain_splice_after ys z).answer ≡ Done) × ((plain_splice_after ys z).other ≡ [])
+  plain-is : (z : Place) (ys : List ℕ) → ((plain_splice_after ys z).answer ≡ done) × ((plain_splice_after ys z).other ≡ [])
   plain-is (at L x R) ys = (refl, refl)
   plain-is (at_null xs) ys = (refl, refl)
 
   pub splice-after-does : (z : Place) (ys : List ℕ) → Sound ws e c z → Listing bit_xor ws o.head.0 o.tail.0 ys → Apart (nodes z) ys
       → DoesTwo ws z ys (splice_after ws e c o) (plain_splice_after ys z)
-  splice-after-does (at L x R) [] s l a = same-does ws e c (at L x R) o [] s l _ _ Done (call-empty (at L x R) s l) refl
-  splice-after-does (at_null xs) [] s l a = same-does ws e c (at_null xs) o [] s l _ _ Done (call-empty (at_null xs) s l) refl
+  splice-after-does (at L x R) [] s l a = same-does ws e c (at L x R) o [] s l _ _ done (call-empty (at L x R) s l) refl
+  splice-after-does (at_null xs) [] s l a = same-does ws e c (at_null xs) o [] s l _ _ done (call-empty (at_null xs) s l) refl
   splice-after-does z (y ∷ ys) s l a =
       let k = sound-joined z y ys s l a in
       let out = outside ws e c o z (y ∷ ys) s l in
-      let d = done z s in
+      let d = is-done z s in
       let p = plain-is z (y ∷ ys) in
       let old = all_append (λ x. is_linked (get_or ws x 0) ≡ true) (nodes z) (y ∷ ys) (xor-listing-linked ws _ _ (nodes z) s.listing) (xor-listing-linked ws _ _ (y ∷ ys) l) in
       let new = all-joined (λ x. is_linked (get_or (spliced_after ws e c o).words x 0) ≡ true) z (y ∷ ys) (xor-listing-linked _ _ _ _ k.listing) in

@@ -16,7 +16,8 @@ use Rattle.words.proofs.Laws.Outside.{Outside, covered-here, covered_more, cover
 use Rattle.links.proofs.Laws.XorListing.{xor-listing-linked}
 use Rattle.links.proofs.Laws.Cuts.{cut_off, cut-stays, cut-goes, cut-changes}
 use Rattle.answers.specs.declared.Refusal.TheVariants.{NotEmpty}
-use Rattle.answers.specs.declared.Answer.TheVariants.{Done, Refused}
+use Rattle.std.specs.Prelude.{Err}
+use Rattle.answers.specs.Answer.{done}
 use Rattle.ends.specs.declared.Ends.{Ends}
 use Rattle.ends.specs.Ends.{empty_ends}
 use Rattle.ends.proofs.Laws.Holds.{name-null}
@@ -67,7 +68,7 @@ module _ (ws : List ℕ) (e : Ends) (c : Cursor) (L : List ℕ) (x : ℕ) (R : L
         (covered-right L (x ∷ R) (name x) (covered-here x R), tt),
       ))
 
-  cut-done : (cut_after ws e c).result.answer ≡ Done
+  cut-done : (cut_after ws e c).result.answer ≡ done
   unfolding cut_after
   cut-done = refl
 
@@ -81,7 +82,7 @@ module _ (ws : List ℕ) (e : Ends) (c : Cursor) (L : List ℕ) (x : ℕ) (R : L
 
 module _ (ws : List ℕ) (e : Ends) (c : Cursor) (o : Ends) (f : pool_fits (length ws) ≡ true) where
   call-full : (z : Place) (y : ℕ) (ys : List ℕ) → Sound ws e c z → Listing bit_xor ws o.head.0 o.tail.0 (y ∷ ys)
-      → split_after ws e c o ≡ outcome ws (edited_two (Refused NotEmpty) e c o)
+      → split_after ws e c o ≡ outcome ws (edited_two (Err NotEmpty) e c o)
   unfolding split_after split_test
   call-full z y ys s l = rw (sound-pair ws e c z o (y ∷ ys) f s l, some_is ws o y ys l)
 
@@ -93,7 +94,7 @@ module _ (ws : List ℕ) (e : Ends) (c : Cursor) (o : Ends) (f : pool_fits (leng
       rw (sound-pair ws e c (at L x R) o [] f s l, empty-is ws o l, n)
 
   call-null : (xs : List ℕ) → Sound ws e c (at_null xs) → Listing bit_xor ws o.head.0 o.tail.0 []
-      → split_after ws e c o ≡ outcome ws (edited_two Done empty_ends (null_cursor empty_ends) e)
+      → split_after ws e c o ≡ outcome ws (edited_two done empty_ends (null_cursor empty_ends) e)
   unfolding split_after split_test cut_at_null
   call-null xs s l =
       let n : is_null c.current ≡ true = rw s.place.0 in rw (sound-pair ws e c (at_null xs) o [] f s l, empty-is ws o l, n)
@@ -104,9 +105,9 @@ module _ (ws : List ℕ) (e : Ends) (c : Cursor) (o : Ends) (f : pool_fits (leng
   pub split-after-does : (z : Place) (ys : List ℕ) → Sound ws e c z → Listing bit_xor ws o.head.0 o.tail.0 ys
       → DoesTwo ws z ys (split_after ws e c o) (plain_split_after ys z)
   split-after-does (at L x R) (y ∷ ys) s l =
-      same-does ws e c (at L x R) o (y ∷ ys) s l _ _ (Refused NotEmpty) (call-full (at L x R) y ys s l) refl
+      same-does ws e c (at L x R) o (y ∷ ys) s l _ _ (Err NotEmpty) (call-full (at L x R) y ys s l) refl
   split-after-does (at_null xs) (y ∷ ys) s l =
-      same-does ws e c (at_null xs) o (y ∷ ys) s l _ _ (Refused NotEmpty) (call-full (at_null xs) y ys s l) refl
+      same-does ws e c (at_null xs) o (y ∷ ys) s l _ _ (Err NotEmpty) (call-full (at_null xs) y ys s l) refl
   split-after-does (at L x R) [] s l =
       let out = cut-outside ws e c L x R s in
       rw (call-node L x R s l)

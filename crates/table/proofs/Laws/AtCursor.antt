@@ -1,21 +1,19 @@
 -- The calls at a cursor keep to the table. Assumes nothing.
 use mathlib.Core.Path.{◌≡◌, refl, sym, ap, ◌∙◌}
-use mathlib.Core.Bool.{Bool, true, false, cond}
+use mathlib.Core.Bool.{false}
 use mathlib.Core.List.{List, [], ◌∷◌}
 use Prim.Native.Nat.{ℕ}
+use Rattle.std.specs.Prelude.{Ok, Err, is_err}
 use Rattle.words.specs.declared.names.Node.{Node}
-use Rattle.words.specs.Names.{is_null, naming, decoding}
-use Rattle.words.specs.declared.names.Found.{Found}
-use Rattle.words.specs.declared.names.Found.TheVariants.{At, Nothing}
+use Rattle.words.specs.Names.{is_null, naming}
 use Rattle.words.specs.Pool.{Outcome, outcome}
-use Rattle.answers.specs.declared.Answer.{Answer}
-use Rattle.answers.specs.declared.Answer.TheVariants.{Done}
-use Rattle.answers.specs.Answer.{is_refused, handing}
+use Rattle.answers.specs.Answer.{Answer, done, Tested, if_refused}
 use Rattle.answers.proofs.Laws.Ladder.{not-both}
 use Rattle.ends.specs.declared.Ends.{Ends}
 use Rattle.cursor.specs.declared.Cursor.{Cursor}
 use Rattle.cursor.specs.declared.Edited.{Edited}
 use Rattle.cursor.specs.Cursor.{edited, stand_test, node_test, some_test, acquire_node}
+use Rattle.cursor.specs.Edits.{unless_refused}
 use Rattle.cursor.proofs.Laws.Refused.{Unchanged}
 use Rattle.moves.specs.Moves.{moved_next, moved_prev, move_next, move_prev}
 use Rattle.insert.specs.Inserts.{inserted_after, inserted_before, insert_after, insert_before}
@@ -31,13 +29,10 @@ use Rattle.table.proofs.Laws.Tests.{stand-first, node-first, some_first, acquire
 
 -- ---- moves
 
-moves-unchanged : (t : Answer) (ws : List ℕ) (e : Ends) (c c' : Cursor)
-    → Unchanged ws e c (outcome ws (cond (is_refused t) (edited t e c) (edited Done e c')))
-moves-unchanged t ws e c c' = go (is_refused t)
-  where
-    go : (b : Bool) → Unchanged ws e c (outcome ws (cond b (edited t e c) (edited Done e c')))
-    go true h = refl
-    go false h = absurd (not-both (sym h))
+moves-unchanged : (t : Tested) (ws : List ℕ) (e : Ends) (c c' : Cursor)
+    → Unchanged ws e c (outcome ws (if_refused t (λ r. edited (Err r) e c) (edited done e c')))
+moves-unchanged (Err r) ws e c c' h = refl
+moves-unchanged (Ok u) ws e c c' h = absurd (not-both (sym h))
 
 next-unchanged : (ws : List ℕ) (e : Ends) (c : Cursor) → Unchanged ws e c (outcome ws (move_next ws e c))
 unfolding move_next
@@ -50,21 +45,21 @@ prev-unchanged ws e c = moves-unchanged (stand_test ws e c) ws e c (moved_prev w
 next-first : (ws : List ℕ) (e : Ends) (c : Cursor) → FirstFailing (cursor_row ws move-next e c) (move_next ws e c).answer
 unfolding move_next
 next-first ws e c =
-    made {A = Edited} (λ d. d.answer) (cursor_row ws move-next e c) (stand_test ws e c) (is_refused (stand_test ws e c)) (edited (stand_test ws e c) e c)
-    (edited Done e (moved_next ws e c)) (λ h. h) refl refl (stand-first ws e c)
+    made {A = Edited} (λ d. d.answer) (cursor_row ws move-next e c) (stand_test ws e c) (λ r. edited (Err r) e c)
+    (edited done e (moved_next ws e c)) (λ r. refl) refl (stand-first ws e c)
 
 prev-first : (ws : List ℕ) (e : Ends) (c : Cursor) → FirstFailing (cursor_row ws move-prev e c) (move_prev ws e c).answer
 unfolding move_prev
 prev-first ws e c =
-    made {A = Edited} (λ d. d.answer) (cursor_row ws move-prev e c) (stand_test ws e c) (is_refused (stand_test ws e c)) (edited (stand_test ws e c) e c)
-    (edited Done e (moved_prev ws e c)) (λ h. h) refl refl (stand-first ws e c)
+    made {A = Edited} (λ d. d.answer) (cursor_row ws move-prev e c) (stand_test ws e c) (λ r. edited (Err r) e c)
+    (edited done e (moved_prev ws e c)) (λ r. refl) refl (stand-first ws e c)
 
 -- ---- the edits
 
 -- an edit that is made where the tests do not refuse
-edits : (ts : List Test) (t : Answer) (w : List ℕ) (e : Ends) (c : Cursor) (o : Outcome Edited) → is_refused o.result.answer ≡ false
-    → FirstFailing ts t → FirstFailing ts (cond (is_refused t) (outcome w (edited t e c)) o).result.answer
-edits ts t w e c o d f = made {A = Outcome Edited} (λ r. r.result.answer) ts t (is_refused t) (outcome w (edited t e c)) o (λ h. h) refl d f
+edits : (ts : List Test) (t : Tested) (w : List ℕ) (e : Ends) (c : Cursor) (o : Outcome Edited) → is_err o.result.answer ≡ false
+    → FirstFailing ts t → FirstFailing ts (unless_refused t w e c o).result.answer
+edits ts t w e c o d f = made {A = Outcome Edited} (λ a. a.result.answer) ts t (λ r. outcome w (edited (Err r) e c)) o (λ r. refl) d f
 
 remove_first : (ws : List ℕ) (e : Ends) (c : Cursor) → FirstFailing (cursor_row ws remove e c) (remove_at ws e c).result.answer
 unfolding remove_at
@@ -83,7 +78,7 @@ module _ (ws : List ℕ) (e : Ends) (c : Cursor) (i : Node) where
   after_first =
       let a = acquire_node ws (node_test ws e c i) (naming i) in
       edits (cursor_row ws (insert-after i) e c) a.result a.words e c (inserted_after a.words e c (naming i))
-      (either {A = Outcome Edited} (λ r. r.result.answer) (is_null c.current) (outcome _ (edited Done _ _)) (outcome _ (edited Done _ _)) refl refl)
+      (either {A = Outcome Edited} (λ r. r.result.answer) (is_null c.current) (outcome _ (edited done _ _)) (outcome _ (edited done _ _)) refl refl)
       insert-tests
 
   before-first : FirstFailing (cursor_row ws (insert-before i) e c) (insert_before ws e c i).result.answer
@@ -91,7 +86,7 @@ module _ (ws : List ℕ) (e : Ends) (c : Cursor) (i : Node) where
   before-first =
       let a = acquire_node ws (node_test ws e c i) (naming i) in
       edits (cursor_row ws (insert-before i) e c) a.result a.words e c (inserted_before a.words e c (naming i))
-      (either {A = Outcome Edited} (λ r. r.result.answer) (is_null c.current) (outcome _ (edited Done _ _)) (outcome _ (edited Done _ _)) refl refl)
+      (either {A = Outcome Edited} (λ r. r.result.answer) (is_null c.current) (outcome _ (edited done _ _)) (outcome _ (edited done _ _)) refl refl)
       insert-tests
 
   replace-first : FirstFailing (cursor_row ws (replace i) e c) (replace_at ws e c i).result.answer
@@ -99,13 +94,9 @@ module _ (ws : List ℕ) (e : Ends) (c : Cursor) (i : Node) where
   replace-first =
       let t = some_test (node_test ws e c i) c in
       let a = acquire_node ws t (naming i) in
-      edits (cursor_row ws (replace i) e c) a.result a.words e c (replaced a.words e c (naming i)) (handing-done (decoding _ c.current))
+      edits (cursor_row ws (replace i) e c) a.result a.words e c (replaced a.words e c (naming i)) refl
       (acquire-first ws i (pool ws ∷ ends ws e ∷ cursor ws e c ∷ node ws i ∷ at_node c ∷ []) t
       (some_first (pool ws ∷ ends ws e ∷ cursor ws e c ∷ node ws i ∷ []) (node_test ws e c i) c (node-first ws e c i)) (λ p. (p.0, p.1.1.1.0)))
-    where
-      handing-done : (f : Found) → is_refused (handing f) ≡ false
-      handing-done (At j) = refl
-      handing-done Nothing = refl
 
 -- ---- all of them
 
@@ -116,7 +107,7 @@ keeps ws ms k e c f u =
       tests = f;
       unchanged = λ r h.
           ap {A = Outcome Edited} {B = Left} (λ o. left o.words ms o.result.answer (cursor-back o.result.ends o.result.cursor) [])
-          (u (ap is_refused h))
+          (u (ap is_err h))
           ∙ ap (λ (a : Answer). left ws ms a (cursor-back e c) []) h;
     }
 

@@ -5,13 +5,13 @@ use mathlib.Core.Bool.{Bool, true, false, ◌&&◌}
 use mathlib.Core.List.{List, [], ◌∷◌}
 use Prim.Native.Nat.{ℕ}
 use lib.ListN.{length, replicate, length-replicate}
+use Rattle.std.specs.Prelude.{Err, is_err, Option}
+use Rattle.words.specs.declared.names.Node.{Node}
 use Rattle.words.specs.Names.{directory_fits}
 use Rattle.words.proofs.Laws.Cases.{both}
 use Rattle.answers.specs.declared.Refusal.{Refusal}
 use Rattle.answers.specs.declared.Refusal.TheVariants.{Size, EndsDoNotHold, NoListing}
-use Rattle.answers.specs.declared.Answer.{Answer}
-use Rattle.answers.specs.declared.Answer.TheVariants.{Refused}
-use Rattle.answers.specs.Answer.{is_refused}
+use Rattle.answers.specs.Answer.{Answer}
 use Rattle.answers.proofs.Laws.Ladder.{not-both}
 use Rattle.ends.specs.declared.Ends.{Ends}
 use Rattle.walk.specs.Marks.{unmarked, sizes_fit, Marking, marking}
@@ -53,12 +53,12 @@ module _ (ws : List ℕ) (es : List Ends) (ms : List ℕ) where
   abbrev later : List Test
   later = test EndsDoNotHold (AllHold ws es) ∷ listings ws es ∷ []
 
-  sizes-first : audit_fits ws es ms ≡ false → FirstFailing (pool ws ∷ marks ws ms ∷ directory es ∷ later) (Refused Size)
+  sizes-first : audit_fits ws es ms ≡ false → FirstFailing {A = Option Node} (pool ws ∷ marks ws ms ∷ directory es ∷ later) (Err Size)
   unfolding audit_fits
   sizes-first = go (sizes_fit ws ms) refl (directory_fits (length es)) refl
     where
       go : (a : Bool) → sizes_fit ws ms ≡ a → (b : Bool) → directory_fits (length es) ≡ b → a && b ≡ false
-          → FirstFailing (pool ws ∷ marks ws ms ∷ directory es ∷ later) (Refused Size)
+          → FirstFailing {A = Option Node} (pool ws ∷ marks ws ms ∷ directory es ∷ later) (Err Size)
       go false p b q h = size-first ws ms (directory es ∷ later) p
       go true p false q h = let z = sizes ws ms p in inl (z.fits, inl (z.long, inr (λ k. not-both (sym k ∙ q), refl)))
       go true p true q h = absurd (not-both h)
@@ -75,16 +75,16 @@ module _ (ws : List ℕ) (es : List Ends) (ms : List ℕ) where
       → FirstFailing (row ws ms (audit es)) (audit_all ws es ms).result.answer
   audit-first false f l h m w = rw (audit-size ws es ms f) (sizes-first f)
   audit-first true f (list k) h m w =
-      rw (after f (list k) h) (sized (Refused EndsDoNotHold) f (inr (λ a. list-none k (sym h ∙ holds-none ws 0 es a), refl)))
+      rw (after f (list k) h) (sized (Err EndsDoNotHold) f (inr (λ a. list-none k (sym h ∙ holds-none ws 0 es a), refl)))
   audit-first true f none h (list k) w =
       rw (after-fault f h k w)
-      (sized (Refused NoListing) f
+      (sized (Err NoListing) f
       (inl (
         none-holds ws 0 es h,
         inr (
           λ a. not-both
-              (sym (ap (λ (o : Marking Audited). is_refused o.result.answer) (after-fault f h k w))
-              ∙ ap (λ (o : Marking Audited). is_refused o.result.answer) (audit-accepts-apart ws es ms a.0 (fits ws es ms f) a.1 a.2)),
+              (sym (ap (λ (o : Marking Audited). is_err o.result.answer) (after-fault f h k w))
+              ∙ ap (λ (o : Marking Audited). is_err o.result.answer) (audit-accepts-apart ws es ms a.0 (fits ws es ms f) a.1 a.2)),
           refl,
         ),
       )))
@@ -100,18 +100,18 @@ module _ (ws : List ℕ) (es : List Ends) (ms : List ℕ) where
   audited a = left ws a.marks a.result.answer nothing-back (a.result.list ∷ a.result.on_lists ∷ a.result.stranded ∷ [])
 
   audit-unchanged : (b : Bool) → audit_fits ws es ms ≡ b → (l : Lowest) → lowest_unheld ws 0 es ≡ l → (m : Lowest) → walks.result ≡ m
-      → (r : Refusal) → (calls ws ms (audit es)).answer ≡ Refused r → calls ws ms (audit es) ≡ refused ws ms (audit es) r
+      → (r : Refusal) → (calls ws ms (audit es)).answer ≡ Err r → calls ws ms (audit es) ≡ refused ws ms (audit es) r
   audit-unchanged false f l h m w = settled ws ms (audit es) Size (ap audited (audit-size ws es ms f))
   audit-unchanged true f (list k) h m w =
       settled ws ms (audit es) EndsDoNotHold
       (ap audited (after f (list k) h)
-      ∙ ap (λ (l : Lowest). left ws ms (Refused EndsDoNotHold) nothing-back (which l ∷ 0 ∷ 0 ∷ [])) (sym h))
+      ∙ ap (λ (l : Lowest). left ws ms (Err EndsDoNotHold) nothing-back (which l ∷ 0 ∷ 0 ∷ [])) (sym h))
   audit-unchanged true f none h (list k) w =
       settled ws ms (audit es) NoListing
       (ap audited (after-fault f h k w)
-      ∙ ap (λ (l : Lowest). left ws (unmarked ms) (Refused NoListing) nothing-back (which l ∷ 0 ∷ 0 ∷ [])) (sym w))
+      ∙ ap (λ (l : Lowest). left ws (unmarked ms) (Err NoListing) nothing-back (which l ∷ 0 ∷ 0 ∷ [])) (sym w))
   audit-unchanged true f none h none w =
-      not-refused ws ms (audit es) (ap (λ (o : Marking Audited). is_refused o.result.answer) (after-walks f h none w))
+      not-refused ws ms (audit es) (ap (λ (o : Marking Audited). is_err o.result.answer) (after-walks f h none w))
 
   pub audit-keeps : Keeps ws ms (audit es)
   audit-keeps =

@@ -1,17 +1,16 @@
 -- The calls on a list keep to the table. Assumes nothing.
 use mathlib.Core.Path.{refl, sym, ap, ◌∙◌}
-use mathlib.Core.Bool.{Bool, true, false, not, cond}
+use mathlib.Core.Bool.{not}
 use mathlib.Core.List.{List, [], ◌∷◌}
 use Prim.Native.Nat.{ℕ}
+use Rattle.std.specs.Prelude.{Ok, Err, is_err}
 use Rattle.words.specs.declared.names.Node.{Node}
 use Rattle.words.specs.Pool.{Outcome, outcome}
 use Rattle.answers.specs.declared.Refusal.TheVariants.{AtNull}
-use Rattle.answers.specs.declared.Answer.{Answer}
-use Rattle.answers.specs.declared.Answer.TheVariants.{Done}
-use Rattle.answers.specs.Answer.{need, is_refused}
+use Rattle.answers.specs.Answer.{Answer, done, Tested, passed, if_refused, need}
 use Rattle.answers.proofs.Laws.Ladder.{not-both}
 use Rattle.ends.specs.declared.Ends.{Ends}
-use Rattle.ends.specs.Ends.{is_empty, empty_ends, turned}
+use Rattle.ends.specs.Ends.{is_empty, empty_ends, turned, list_edited}
 use Rattle.ends.specs.Tests.{ends_test}
 use Rattle.ends.proofs.Laws.Stands.{stands-null}
 use Rattle.cursor.specs.declared.Cursor.{Cursor}
@@ -20,8 +19,8 @@ use Rattle.moves.specs.Moves.{moved_next, moved_prev}
 use Rattle.insert.specs.Inserts.{insert_after, insert_before}
 use Rattle.remove.specs.Removes.{removed}
 use Rattle.remove.proofs.Laws.Refused.{removed-done}
-use Rattle.list.specs.declared.ListEdited.{ListEdited}
-use Rattle.list.specs.Lists.{list_edited, without_cursor, push_front, push_back, pop_test, pop_front, pop_back, fast_clear, reversed}
+use Rattle.ends.specs.declared.ListEdited.{ListEdited}
+use Rattle.list.specs.Lists.{without_cursor, push_front, push_back, pop_test, pop_front, pop_back, fast_clear, reversed}
 use Rattle.list.proofs.Laws.Refused.{UnchangedList, push-front-unchanged, push-back-unchanged, pop-front-unchanged, pop-back-unchanged}
 use Rattle.table.specs.Calls.{insert-after, insert-before, OnList, push-front, push-back, pop-front, pop-back, fast-clear, reversal}
 use Rattle.table.specs.Calls.{on-list, list_back, Left, left, on_list}
@@ -54,15 +53,15 @@ push-back-first ws e i =
 pop-tests : (ws : List ℕ) (e : Ends) → FirstFailing (pool ws ∷ ends ws e ∷ some e ∷ []) (pop_test ws e)
 unfolding pop_test
 pop-tests ws e =
-    after (pool ws ∷ ends ws e ∷ []) (some e ∷ []) (ends_test ws e) (need (not (is_empty e)) AtNull Done) (ends-first ws e)
+    after (pool ws ∷ ends ws e ∷ []) (some e ∷ []) (ends_test ws e) (need (not (is_empty e)) AtNull passed) (ends-first ws e)
     (λ h. denied (is_empty e) AtNull)
 
 pops : (ws : List ℕ) (e : Ends) (c : Cursor)
     → FirstFailing (pool ws ∷ ends ws e ∷ some e ∷ [])
-    (cond (is_refused (pop_test ws e)) (outcome ws (list_edited (pop_test ws e) e)) (without_cursor (removed ws e c))).result.answer
+    (if_refused (pop_test ws e) (λ r. outcome ws (list_edited (Err r) e)) (without_cursor (removed ws e c))).result.answer
 pops ws e c =
-    made {A = Outcome ListEdited} (λ d. d.result.answer) (pool ws ∷ ends ws e ∷ some e ∷ []) (pop_test ws e) (is_refused (pop_test ws e))
-    (outcome ws (list_edited (pop_test ws e) e)) (without_cursor (removed ws e c)) (λ h. h) refl (removed-done ws e c) (pop-tests ws e)
+    made {A = Outcome ListEdited} (λ d. d.result.answer) (pool ws ∷ ends ws e ∷ some e ∷ []) (pop_test ws e)
+    (λ r. outcome ws (list_edited (Err r) e)) (without_cursor (removed ws e c)) (λ r. refl) (removed-done ws e c) (pop-tests ws e)
 
 pop-front-first : (ws : List ℕ) (e : Ends) → FirstFailing (list_row ws pop-front e) (pop_front ws e).result.answer
 unfolding pop_front
@@ -75,20 +74,17 @@ pop-back-first ws e = pops ws e (moved_prev ws e (null_cursor e))
 -- ---- fast clear and reverse
 
 module _ (ws : List ℕ) (e e' : Ends) where
-  abbrev by-ends : ListEdited
-  by-ends = cond (is_refused (ends_test ws e)) (list_edited (ends_test ws e) e) (list_edited Done e')
+  abbrev by-ends : Tested → ListEdited
+  by-ends t = if_refused t (λ r. list_edited (Err r) e) (list_edited done e')
 
-  by-ends-first : FirstFailing (pool ws ∷ ends ws e ∷ []) by-ends.answer
+  by-ends-first : FirstFailing (pool ws ∷ ends ws e ∷ []) (by-ends (ends_test ws e)).answer
   by-ends-first =
-      made {A = ListEdited} (λ d. d.answer) (pool ws ∷ ends ws e ∷ []) (ends_test ws e) (is_refused (ends_test ws e))
-      (list_edited (ends_test ws e) e) (list_edited Done e') (λ h. h) refl refl (ends-first ws e)
+      made {A = ListEdited} (λ d. d.answer) (pool ws ∷ ends ws e ∷ []) (ends_test ws e) (λ r. list_edited (Err r) e) (list_edited done e') (λ r. refl)
+      refl (ends-first ws e)
 
-  by-ends-unchanged : UnchangedList ws e (outcome ws by-ends)
-  by-ends-unchanged = go (is_refused (ends_test ws e))
-    where
-      go : (b : Bool) → UnchangedList ws e (outcome ws (cond b (list_edited (ends_test ws e) e) (list_edited Done e')))
-      go true h = refl
-      go false h = absurd (not-both (sym h))
+  by-ends-unchanged : (t : Tested) → UnchangedList ws e (outcome ws (by-ends t))
+  by-ends-unchanged (Err r) h = refl
+  by-ends-unchanged (Ok u) h = absurd (not-both (sym h))
 
 clear_first : (ws : List ℕ) (e : Ends) → FirstFailing (list_row ws fast-clear e) (fast_clear ws e).answer
 unfolding fast_clear
@@ -96,7 +92,7 @@ clear_first ws e = by-ends-first ws e empty_ends
 
 clear-unchanged : (ws : List ℕ) (e : Ends) → UnchangedList ws e (outcome ws (fast_clear ws e))
 unfolding fast_clear
-clear-unchanged ws e = by-ends-unchanged ws e empty_ends
+clear-unchanged ws e = by-ends-unchanged ws e empty_ends (ends_test ws e)
 
 reverse-first : (ws : List ℕ) (e : Ends) → FirstFailing (list_row ws reversal e) (reversed ws e).answer
 unfolding reversed
@@ -104,7 +100,7 @@ reverse-first ws e = by-ends-first ws e (turned e)
 
 reverse-unchanged : (ws : List ℕ) (e : Ends) → UnchangedList ws e (outcome ws (reversed ws e))
 unfolding reversed
-reverse-unchanged ws e = by-ends-unchanged ws e (turned e)
+reverse-unchanged ws e = by-ends-unchanged ws e (turned e) (ends_test ws e)
 
 -- ---- all of them
 
@@ -114,7 +110,7 @@ keeps ws ms k e f u =
     record {
       tests = f;
       unchanged = λ r h.
-          ap {A = Outcome ListEdited} {B = Left} (λ o. left o.words ms o.result.answer (list_back o.result.ends) []) (u (ap is_refused h))
+          ap {A = Outcome ListEdited} {B = Left} (λ o. left o.words ms o.result.answer (list_back o.result.ends) []) (u (ap is_err h))
           ∙ ap (λ (a : Answer). left ws ms a (list_back e) []) h;
     }
 

@@ -7,16 +7,13 @@ use lib.Bits.{bit_xor}
 use lib.Dec.{ltb}
 use lib.ListN.{length, get_or}
 use borrow.Author.Tests.{ltb-true, lt-ltb}
+use Rattle.std.specs.Prelude.{Option, Some, None, Ok, Err, is_err}
 use Rattle.words.specs.declared.names.Node.{Node}
-use Rattle.words.specs.declared.names.Found.{Found}
-use Rattle.words.specs.declared.names.Found.TheVariants.{At, Nothing}
 use Rattle.words.specs.Names.{name, naming, pool_fits}
 use Rattle.words.proofs.Laws.Pool.{word-name}
 use Rattle.links.specs.XorOps.{next_of, prev_of}
 use Rattle.answers.specs.declared.Refusal.TheVariants.{CursorDoesNotStand, NoSuchNode}
-use Rattle.answers.specs.declared.Answer.{Answer}
-use Rattle.answers.specs.declared.Answer.TheVariants.{Done, Refused}
-use Rattle.answers.specs.Answer.{need, is_refused}
+use Rattle.answers.specs.Answer.{Answer, done, Tested, passed, if_refused, need, and_then}
 use Rattle.answers.proofs.Laws.Ladder.{not-both}
 use Rattle.ends.specs.declared.Ends.{Ends}
 use Rattle.ends.specs.Tests.{ends_test, stands}
@@ -30,95 +27,95 @@ use Rattle.place.specs.Places.{claimed, known, claim_test, placed as placed_at, 
 use Rattle.table.specs.Calls.{Placing, at-front, at-back, by-prev, by-next, placing, cursor-back, Left, left, placed}
 use Rattle.table.specs.Table.{FirstFailing, pool, ends, standing, node, Known, neighbour, named, place_row}
 use Rattle.table.specs.Refused.{Keeps}
-use Rattle.table.proofs.Laws.Ladder.{rung, flag, after, same, done_all}
+use Rattle.table.proofs.Laws.Ladder.{rung, flag, after, made, done_all}
 use Rattle.table.proofs.Laws.Tests.{ends-first, node-rung}
 
 -- refused, it is the null cursor of the given ends
 abbrev UnchangedPlace : Ends → Edited → Type 0
-UnchangedPlace e d = is_refused d.answer ≡ true → d ≡ edited d.answer e (null_cursor e)
+UnchangedPlace e d = is_err d.answer ≡ true → d ≡ edited d.answer e (null_cursor e)
 
 -- ---- at the ends
 
 module _ (ws : List ℕ) (e : Ends) (c : Cursor) where
-  abbrev at-end : Bool → Edited
-  at-end b = cond b (edited (ends_test ws e) e (null_cursor e)) (edited Done e c)
+  abbrev at-end : Tested → Edited
+  at-end t = if_refused t (λ r. edited (Err r) e (null_cursor e)) (edited done e c)
 
-  at-end-first : (b : Bool) → is_refused (ends_test ws e) ≡ b → FirstFailing (pool ws ∷ ends ws e ∷ []) (at-end b).answer
-  at-end-first true h = ends-first ws e
-  at-end-first false h =
-      same (pool ws ∷ ends ws e ∷ []) (ends_test ws e) Done (λ z. absurd (not-both (sym z ∙ h))) (λ z. refl) (ends-first ws e)
+  at-end-first : FirstFailing (pool ws ∷ ends ws e ∷ []) (at-end (ends_test ws e)).answer
+  at-end-first =
+      made {A = Edited} (λ d. d.answer) (pool ws ∷ ends ws e ∷ []) (ends_test ws e) (λ r. edited (Err r) e (null_cursor e)) (edited done e c) (λ r. refl)
+      refl (ends-first ws e)
 
-  at-end-unchanged : (b : Bool) → UnchangedPlace e (at-end b)
-  at-end-unchanged true h = refl
-  at-end-unchanged false h = absurd (not-both (sym h))
+  at-end-unchanged : (t : Tested) → UnchangedPlace e (at-end t)
+  at-end-unchanged (Err r) h = refl
+  at-end-unchanged (Ok u) h = absurd (not-both (sym h))
 
 front-first : (ws : List ℕ) (e : Ends) → FirstFailing (place_row ws at-front e) (at_front ws e).answer
 unfolding at_front
-front-first ws e = at-end-first ws e (moved_next ws e (null_cursor e)) (is_refused (ends_test ws e)) refl
+front-first ws e = at-end-first ws e (moved_next ws e (null_cursor e))
 
 front-unchanged : (ws : List ℕ) (e : Ends) → UnchangedPlace e (at_front ws e)
 unfolding at_front
-front-unchanged ws e = at-end-unchanged ws e (moved_next ws e (null_cursor e)) (is_refused (ends_test ws e))
+front-unchanged ws e = at-end-unchanged ws e (moved_next ws e (null_cursor e)) (ends_test ws e)
 
 back-first : (ws : List ℕ) (e : Ends) → FirstFailing (place_row ws at-back e) (at_back ws e).answer
 unfolding at_back
-back-first ws e = at-end-first ws e (moved_prev ws e (null_cursor e)) (is_refused (ends_test ws e)) refl
+back-first ws e = at-end-first ws e (moved_prev ws e (null_cursor e))
 
 back-unchanged : (ws : List ℕ) (e : Ends) → UnchangedPlace e (at_back ws e)
 unfolding at_back
-back-unchanged ws e = at-end-unchanged ws e (moved_prev ws e (null_cursor e)) (is_refused (ends_test ws e))
+back-unchanged ws e = at-end-unchanged ws e (moved_prev ws e (null_cursor e)) (ends_test ws e)
 
 -- ---- by a node and a neighbour
 
-known_is : (n : ℕ) (j : Found) → known n j ≡ true → Known n j
-known_is n (At i) h = ltb-true i.0 n h
-known_is n Nothing h = tt
+known_is : (n : ℕ) (j : Option Node) → known n j ≡ true → Known n j
+known_is n (Some i) h = ltb-true i.0 n h
+known_is n None h = tt
 
-is_known : (n : ℕ) (j : Found) → Known n j → known n j ≡ true
-is_known n (At i) h = lt-ltb i.0 n h
-is_known n Nothing h = refl
+is_known : (n : ℕ) (j : Option Node) → Known n j → known n j ≡ true
+is_known n (Some i) h = lt-ltb i.0 n h
+is_known n None h = refl
 
-claimed-named : (n : ℕ) (j : Found) → pool_fits n ≡ true → Known n j → claimed j ≡ record { 0 = named j }
-claimed-named n (At i) f h = naming-in n i f h
-claimed-named n Nothing f h = refl
+claimed-named : (n : ℕ) (j : Option Node) → pool_fits n ≡ true → Known n j → claimed j ≡ record { 0 = named j }
+claimed-named n (Some i) f h = naming-in n i f h
+claimed-named n None f h = refl
 
-module _ (ws : List ℕ) (e : Ends) (i : Node) (j : Found) where
+module _ (ws : List ℕ) (e : Ends) (i : Node) (j : Option Node) where
   claim-first : FirstFailing (pool ws ∷ ends ws e ∷ node ws i ∷ neighbour ws j ∷ []) (claim_test ws e i j)
   unfolding claim_test
   claim-first =
       let n = length ws in
-      let last = need (known n j) NoSuchNode Done in
+      let last = need (known n j) NoSuchNode passed in
       after (pool ws ∷ ends ws e ∷ []) (node ws i ∷ neighbour ws j ∷ []) (ends_test ws e) (need (ltb i.0 n) NoSuchNode last) (ends-first ws e)
       (λ h. node-rung ws i last (neighbour ws j ∷ [])
-      (λ p. rung (known n j) NoSuchNode (Known n j) Done [] (λ k. known_is n j k) (λ k. is_known n j k) (λ q. refl)))
+      (λ p. rung (known n j) NoSuchNode (Known n j) passed [] (λ k. known_is n j k) (λ k. is_known n j k) (λ q. refl)))
 
   -- what is made of the tests and of the place
-  abbrev by-claim : Bool → Bool → Cursor → Edited
-  by-claim b s c =
-      cond b (edited (claim_test ws e i j) e (null_cursor e)) (cond s (edited Done e c) (edited (Refused CursorDoesNotStand) e (null_cursor e)))
+  abbrev by-claim : Tested → Bool → Cursor → Edited
+  by-claim t s c =
+      if_refused t (λ r. edited (Err r) e (null_cursor e)) (cond s (edited done e c) (edited (Err CursorDoesNotStand) e (null_cursor e)))
 
-  ladder : (b s : Bool) (c : Cursor) → (by-claim b s c).answer ≡ cond b (claim_test ws e i j) (need s CursorDoesNotStand Done)
-  ladder true s c = refl
-  ladder false true c = refl
-  ladder false false c = refl
+  ladder : (t : Tested) (s : Bool) (c : Cursor) → (by-claim t s c).answer ≡ and_then t (need s CursorDoesNotStand done)
+  ladder (Err r) s c = refl
+  ladder (Ok u) true c = refl
+  ladder (Ok u) false c = refl
 
-  unchanged : (b s : Bool) (c : Cursor) → UnchangedPlace e (by-claim b s c)
-  unchanged true s c h = refl
-  unchanged false true c h = absurd (not-both (sym h))
-  unchanged false false c h = refl
+  unchanged : (t : Tested) (s : Bool) (c : Cursor) → UnchangedPlace e (by-claim t s c)
+  unchanged (Err r) s c h = refl
+  unchanged (Ok u) true c h = absurd (not-both (sym h))
+  unchanged (Ok u) false c h = refl
 
   -- the cursor is the one that the table speaks of, where the tests pass
   claims : (c : Cursor) (w p q : ℕ)
       → (pool_fits (length ws) ≡ true → i.0 < length ws → Known (length ws) j
       → c ≡ cursor_of (record { 0 = w }) (record { 0 = p }) (record { 0 = q }))
       → FirstFailing (pool ws ∷ ends ws e ∷ node ws i ∷ neighbour ws j ∷ standing ws e w p q ∷ [])
-      (by-claim (is_refused (claim_test ws e i j)) (cursor_stands ws e c) c).answer
+      (by-claim (claim_test ws e i j) (cursor_stands ws e c) c).answer
   claims c w p q k =
       let ts = pool ws ∷ ends ws e ∷ node ws i ∷ neighbour ws j ∷ [] in
-      rw (ladder (is_refused (claim_test ws e i j)) (cursor_stands ws e c) c)
-      (after ts (standing ws e w p q ∷ []) (claim_test ws e i j) (need (cursor_stands ws e c) CursorDoesNotStand Done) claim-first
+      rw (ladder (claim_test ws e i j) (cursor_stands ws e c) c)
+      (after ts (standing ws e w p q ∷ []) (claim_test ws e i j) (need (cursor_stands ws e c) CursorDoesNotStand done) claim-first
       (λ h. let a = done_all ts (claim_test ws e i j) claim-first h in
-      rw (k a.0 a.1.1.0 a.1.1.1.0) (flag (stands ws e w p q) CursorDoesNotStand Done [] (λ r. refl))))
+      rw (k a.0 a.1.1.0 a.1.1.1.0) (flag (stands ws e w p q) CursorDoesNotStand done [] (λ r. refl))))
 
   abbrev prev_cursor : Cursor
   prev_cursor = cursor_of (naming i) (claimed j) (record { 0 = next_of ws (naming i).0 (claimed j).0 })
@@ -134,7 +131,7 @@ module _ (ws : List ℕ) (e : Ends) (i : Node) (j : Found) where
 
   prev-unchanged : UnchangedPlace e (place_by_prev ws e i j)
   unfolding place_by_prev placed_at
-  prev-unchanged = unchanged (is_refused (claim_test ws e i j)) (cursor_stands ws e prev_cursor) prev_cursor
+  prev-unchanged = unchanged (claim_test ws e i j) (cursor_stands ws e prev_cursor) prev_cursor
 
   next-first : FirstFailing (place_row ws (by-next i j) e) (place_by_next ws e i j).answer
   unfolding place_by_next placed_at prev_of
@@ -144,7 +141,7 @@ module _ (ws : List ℕ) (e : Ends) (i : Node) (j : Found) where
 
   next-unchanged : UnchangedPlace e (place_by_next ws e i j)
   unfolding place_by_next placed_at
-  next-unchanged = unchanged (is_refused (claim_test ws e i j)) (cursor_stands ws e next_cursor) next_cursor
+  next-unchanged = unchanged (claim_test ws e i j) (cursor_stands ws e next_cursor) next_cursor
 
 -- ---- all of them
 
@@ -154,7 +151,7 @@ keeps ws ms k e f u =
     record {
       tests = f;
       unchanged = λ r h.
-          ap {A = Edited} {B = Left} (λ d. left ws ms d.answer (cursor-back d.ends d.cursor) []) (u (ap is_refused h))
+          ap {A = Edited} {B = Left} (λ d. left ws ms d.answer (cursor-back d.ends d.cursor) []) (u (ap is_err h))
           ∙ ap (λ (a : Answer). left ws ms a (cursor-back e (null_cursor e)) []) h;
     }
 

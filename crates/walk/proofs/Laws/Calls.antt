@@ -12,9 +12,8 @@ use Rattle.words.specs.Names.{pool_fits}
 use Rattle.words.specs.Pool.{outcome}
 use Rattle.words.proofs.Laws.Cases.{both}
 use Rattle.answers.specs.declared.Refusal.TheVariants.{Size, EndsDoNotHold, NoListing}
-use Rattle.answers.specs.declared.Answer.TheVariants.{Done, Refused}
+use Rattle.std.specs.Prelude.{None, Ok, Err, is_err}
 use Rattle.ends.specs.declared.Ends.{Ends}
-use Rattle.answers.specs.Answer.{is_refused}
 use Rattle.ends.specs.Ends.{is_empty, empty_ends}
 use Rattle.ends.specs.Tests.{ends_hold}
 use Rattle.walk.specs.declared.step.Stood.{Stood}
@@ -94,9 +93,9 @@ module _ (ws ms : List ℕ) (e : Ends) where
     size : sizes_fit ws ms ≡ false → walk_all ws ms e ≡ unbegun ms Size → View
     ends : sizes_fit ws ms ≡ true → ends_hold ws e ≡ false → walk_all ws ms e ≡ unbegun ms EndsDoNotHold → View
     fault : sizes_fit ws ms ≡ true → ends_hold ws e ≡ true → (walk_of ws (unmarked ms) e).ok ≡ false
-        → walk_all ws ms e ≡ marking (unmarked ms) (record { answer = Refused NoListing; count = length (walk_of ws (unmarked ms) e).met }) → View
+        → walk_all ws ms e ≡ marking (unmarked ms) (record { answer = Err NoListing; count = length (walk_of ws (unmarked ms) e).met }) → View
     done : sizes_fit ws ms ≡ true → ends_hold ws e ≡ true → (walk_of ws (unmarked ms) e).ok ≡ true
-        → walk_all ws ms e ≡ marking (paint (unmarked ms) 1 (walk_of ws (unmarked ms) e).met) (record { answer = Done; count = length (walk_of ws (unmarked ms) e).met }) → View
+        → walk_all ws ms e ≡ marking (paint (unmarked ms) 1 (walk_of ws (unmarked ms) e).met) (record { answer = Ok None; count = length (walk_of ws (unmarked ms) e).met }) → View
 
   pub walk-size : sizes_fit ws ms ≡ false → walk_all ws ms e ≡ unbegun ms Size
   unfolding walk_all
@@ -107,12 +106,12 @@ module _ (ws ms : List ℕ) (e : Ends) where
   walk_ends s h = rw (s, h)
 
   pub walk-fault : sizes_fit ws ms ≡ true → ends_hold ws e ≡ true → (walk_of ws (unmarked ms) e).ok ≡ false
-      → walk_all ws ms e ≡ marking (unmarked ms) (record { answer = Refused NoListing; count = length (walk_of ws (unmarked ms) e).met })
+      → walk_all ws ms e ≡ marking (unmarked ms) (record { answer = Err NoListing; count = length (walk_of ws (unmarked ms) e).met })
   unfolding walk_all verdict
   walk-fault s h o = rw (s, h, o)
 
   pub walk-done : sizes_fit ws ms ≡ true → ends_hold ws e ≡ true → (walk_of ws (unmarked ms) e).ok ≡ true
-      → walk_all ws ms e ≡ marking (paint (unmarked ms) 1 (walk_of ws (unmarked ms) e).met) (record { answer = Done; count = length (walk_of ws (unmarked ms) e).met })
+      → walk_all ws ms e ≡ marking (paint (unmarked ms) 1 (walk_of ws (unmarked ms) e).met) (record { answer = Ok None; count = length (walk_of ws (unmarked ms) e).met })
   unfolding walk_all verdict
   walk-done s h o = rw (s, h, o)
 
@@ -136,20 +135,20 @@ module _ (ws ms : List ℕ) (e : Ends) where
         let s' : sizes_fit ws z' ≡ true = sizes-fit ws z' fits.fits (length-replicate {A = ℕ} (length ms) 0 ∙ fits.long) in
         l ∙ ap (λ (k : List ℕ). walk_list ws k e 1) z ∙ list-walks ws z' e 1 (can-walk ws z' e 1 s' one h)
 
-    pub step-done : r.ok ≡ true → marking ms2 (record { answer = Done; count = r.count }) ≡ walk_all ws ms e
+    pub step-done : r.ok ≡ true → marking ms2 (record { answer = Ok None; count = r.count }) ≡ walk_all ws ms e
     unfolding stood
     step-done o =
         let ok = sym (ap (λ (x : Marking Stood). x.result.ok) stepped) ∙ o in
-        ap (λ (x : Marking Stood). marking x.marks (record { answer = Done; count = x.result.count })) stepped ∙ sym (walk-done s h ok)
+        ap (λ (x : Marking Stood). marking x.marks (record { answer = Ok None; count = x.result.count })) stepped ∙ sym (walk-done s h ok)
 
-    pub step-fault : r.ok ≡ false → marking (unmarked ms2) (record { answer = Refused NoListing; count = r.count }) ≡ walk_all ws ms e
+    pub step-fault : r.ok ≡ false → marking (unmarked ms2) (record { answer = Err NoListing; count = r.count }) ≡ walk_all ws ms e
     unfolding stood
     step-fault o =
         let ok = sym (ap (λ (x : Marking Stood). x.result.ok) stepped) ∙ o in
         let long : length ms2 ≡ length ms =
         ap (λ (x : Marking Stood). length x.marks) stepped ∙ paint-length (unmarked ms) 1 _ ∙ length-replicate {A = ℕ} (length ms) 0 in
-        ap (λ (n : ℕ). marking (replicate n 0) (record { answer = Refused NoListing; count = r.count })) long
-        ∙ ap (λ (x : Marking Stood). marking (unmarked ms) (record { answer = Refused NoListing; count = x.result.count })) stepped
+        ap (λ (n : ℕ). marking (replicate n 0) (record { answer = Err NoListing; count = r.count })) long
+        ∙ ap (λ (x : Marking Stood). marking (unmarked ms) (record { answer = Err NoListing; count = x.result.count })) stepped
         ∙ sym (walk-fault s h ok)
 
 -- ---- clear
@@ -159,13 +158,13 @@ pub record Accepted (ws ms : List ℕ) (e : Ends) : Type 0 where
   pub sized : sizes_fit ws ms ≡ true
   pub held : ends_hold ws e ≡ true
   pub right : (walk_of ws (unmarked ms) e).ok ≡ true
-  pub comes : walk_all ws ms e ≡ marking (paint (unmarked ms) 1 (walk_of ws (unmarked ms) e).met) (record { answer = Done; count = length (walk_of ws (unmarked ms) e).met })
+  pub comes : walk_all ws ms e ≡ marking (paint (unmarked ms) 1 (walk_of ws (unmarked ms) e).met) (record { answer = Ok None; count = length (walk_of ws (unmarked ms) e).met })
 
-pub accepted : (ws ms : List ℕ) (e : Ends) → is_refused (walk_all ws ms e).result.answer ≡ false → Accepted ws ms e
+pub accepted : (ws ms : List ℕ) (e : Ends) → is_err (walk_all ws ms e).result.answer ≡ false → Accepted ws ms e
 accepted ws ms e h = go (view ws ms e)
   where
-    refused : (o : Marking Walked) → walk_all ws ms e ≡ o → is_refused o.result.answer ≡ true → ⊥
-    refused o p k = false-true (sym h ∙ ap (λ (x : Marking Walked). is_refused x.result.answer) p ∙ k)
+    refused : (o : Marking Walked) → walk_all ws ms e ≡ o → is_err o.result.answer ≡ true → ⊥
+    refused o p k = false-true (sym h ∙ ap (λ (x : Marking Walked). is_err x.result.answer) p ∙ k)
 
     go : View ws ms e → Accepted ws ms e
     go (size s p) = absurd (refused (unbegun ms Size) p refl)
@@ -174,20 +173,20 @@ accepted ws ms e h = go (view ws ms e)
     go (done s k o p) = record { sized = s; held = k; right = o; comes = p }
 
 module _ (ws ms : List ℕ) (e : Ends) (ms1 : List ℕ) (w : Walked) (l : marking ms1 w ≡ walk_all ws ms e) where
-  pub clear-refused : is_refused w.answer ≡ true → outcome ws (marking ms1 (record { answer = w.answer; ends = e })) ≡ clear_all ws ms e
+  pub clear-refused : is_err w.answer ≡ true → outcome ws (marking ms1 (record { answer = w.answer; ends = e })) ≡ clear_all ws ms e
   unfolding clear_all
   clear-refused r = rw (← l, r)
 
-  went : is_refused w.answer ≡ false → Accepted ws ms e
+  went : is_err w.answer ≡ false → Accepted ws ms e
   went r = accepted ws ms e (rw (← l) r)
 
-  pub clear-long : is_refused w.answer ≡ false → length ms1 ≡ length ws
+  pub clear-long : is_err w.answer ≡ false → length ms1 ≡ length ws
   clear-long r =
       let a = went r in
       ap (λ (x : Marking Walked). length x.marks) (l ∙ a.comes) ∙ paint-length (unmarked ms) 1 _
       ∙ length-replicate {A = ℕ} (length ms) 0 ∙ (sizes ws ms a.sized).long
 
-  pub clear-done : is_refused w.answer ≡ false → (ws' : List ℕ) → Released ws ms1 ws' → (e' : Ends) → e' ≡ empty_ends
+  pub clear-done : is_err w.answer ≡ false → (ws' : List ℕ) → Released ws ms1 ws' → (e' : Ends) → e' ≡ empty_ends
       → outcome ws' (marking ms1 (record { answer = w.answer; ends = e' })) ≡ clear_all ws ms e
   unfolding clear_all
   clear-done r ws' d e' none =

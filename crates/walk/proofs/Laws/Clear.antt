@@ -12,9 +12,9 @@ use Rattle.words.specs.Changes.{Changes}
 use Rattle.words.proofs.Laws.Names.{name-inj}
 use Rattle.words.proofs.Laws.Nodes.{all_map, apart-sym}
 use Rattle.words.proofs.Laws.Listing.{listing-frame}
-use Rattle.answers.specs.declared.Answer.TheVariants.{Done}
+use Rattle.std.specs.Prelude.{is_err}
 use Rattle.ends.specs.declared.Ends.{Ends}
-use Rattle.answers.specs.Answer.{is_refused}
+use Rattle.answers.specs.Answer.{done}
 use Rattle.ends.specs.Ends.{empty_ends}
 use Rattle.walk.specs.Marks.{paint, unmarked, marking}
 use Rattle.walk.specs.Calls.{walk_all, clear_all}
@@ -46,7 +46,7 @@ paint-keeps word ws v xs h t ys a l =
 -- on a listing: each of its nodes gets the word 1, the marks are the walk's, and the list is empty
 pub clear-listing : (ws ms : List ℕ) (e : Ends) (xs : List ℕ) → pool_fits (length ws) ≡ true → length ms ≡ length ws
     → Listing bit_xor ws e.head.0 e.tail.0 xs
-    → clear_all ws ms e ≡ outcome (paint ws 1 xs) (marking (paint (unmarked ms) 1 xs) (record { answer = Done; ends = empty_ends }))
+    → clear_all ws ms e ≡ outcome (paint ws 1 xs) (marking (paint (unmarked ms) 1 xs) (record { answer = done; ends = empty_ends }))
 unfolding clear_all
 clear-listing ws ms e xs f n l =
     rw (walk-accepts ws ms e xs f n l, listing-walk ws (unmarked ms) e xs l (unmarked-clean ms xs), paint-reverse ws 1 xs)
@@ -64,7 +64,7 @@ pub clear-keeps : (ws xs : List ℕ) (h t : ℕ) (ys : List ℕ) → Apart xs ys
 clear-keeps ws xs h t ys a l = paint-keeps bit_xor ws 1 xs h t ys a l
 
 -- refused: no word is changed, and the ends are those given
-pub clear-refuses : (ws ms : List ℕ) (e : Ends) → is_refused (walk_all ws ms e).result.answer ≡ true
+pub clear-refuses : (ws ms : List ℕ) (e : Ends) → is_err (walk_all ws ms e).result.answer ≡ true
     → clear_all ws ms e ≡ outcome ws (marking (walk_all ws ms e).marks (record { answer = (walk_all ws ms e).result.answer; ends = e }))
 unfolding clear_all
 clear-refuses ws ms e r = rw r

@@ -1,7 +1,7 @@
 -- The loop of a walk: where it stands after some nodes, and how it comes out. Assumes nothing.
 use mathlib.Core.Path.{◌≡◌, refl, sym, ap, ◌∙◌}
 use mathlib.Core.Logic.{◌≢◌}
-use mathlib.Core.Bool.{Bool, true, false, not, cond}
+use mathlib.Core.Bool.{Bool, true, false, not}
 use mathlib.Core.List.{List, [], ◌∷◌}
 use Prim.Native.Nat.{ℕ, suc, ◌+◌, ◌-◌, ◌<◌, ◌≤◌}
 use native.Mathlib.Omega.{arith}
@@ -9,10 +9,7 @@ use lib.Bits.{bit_xor}
 use lib.Dec.{eqb}
 use lib.ListN.{length, get_or, set}
 use borrow.Author.Tests.{eq-eqb, ne_eqb}
-use Rattle.words.specs.declared.names.Node.{Node}
-use Rattle.words.specs.declared.names.Name.{Name}
-use Rattle.words.specs.declared.names.Found.TheVariants.{At, Nothing}
-use Rattle.words.specs.Names.{node_of, is_name, decoding, pool_fits}
+use Rattle.words.specs.Names.{node_of, is_name, pool_fits}
 use Rattle.words.specs.Pool.{word_at}
 use Rattle.links.specs.XorOps.{next_of}
 use Rattle.words.proofs.Laws.Names.{fits-small, named-node}
@@ -29,37 +26,15 @@ use Rattle.walk.proofs.Laws.Step.{free-is, free-none, step-dry, step-fault, step
 pub fits_word : (n : ℕ) → pool_fits n ≡ true → n < 2147483648
 fits_word n h = let k = fits-small n h in omega arith
 
--- what decoding tells of a word
-pub decoded : (n : ℕ) (w : Name) (i : Node) → decoding n w ≡ At i → (is_name n w.0 ≡ true) × (i.0 ≡ node_of w.0)
-unfolding decoding
-decoded n w i e = go (is_name n w.0) refl e
-  where
-    go : (b : Bool) → is_name n w.0 ≡ b → cond b (At (record { 0 = node_of w.0 })) Nothing ≡ At i
-        → (is_name n w.0 ≡ true) × (i.0 ≡ node_of w.0)
-    go true t k = let z : ◌≡◌ {A = Node} i (record { 0 = node_of w.0 }) = cc in (t, ap (λ (j : Node). j.0) z)
-    go false t k = absurd (let z : ◌≡◌ {A = ℕ} 0 1 = cc in omega arith)
-
-pub undecoded : (n : ℕ) (w : Name) → decoding n w ≡ Nothing → is_name n w.0 ≡ false
-unfolding decoding
-undecoded n w e = go (is_name n w.0) refl e
-  where
-    go : (b : Bool) → is_name n w.0 ≡ b → cond b (At (record { 0 = node_of w.0 })) Nothing ≡ Nothing → is_name n w.0 ≡ false
-    go true t k = absurd (let z : ◌≡◌ {A = ℕ} 0 1 = cc in omega arith)
-    go false t k = t
-
 -- the name after a name in range
 pub next-is : (ws : List ℕ) (w p : ℕ) → is_name (length ws) w ≡ true → next_of ws w p ≡ bit_xor (get_or ws (node_of w) 0) p
 unfolding next_of word_at
 next-is ws w p h = rw h
 
--- at the tail, and away from it
-pub at-tail : (t w q : ℕ) → w ≡ t → at_tail t w q ≡ true
+-- whether it is at the tail
+pub at-tail : (t w q : ℕ) {b : Bool} → eqb w t ≡ b → at_tail t w q ≡ b
 unfolding at_tail
-at-tail t w q e = eq-eqb w t e
-
-pub off_tail : (t w q : ℕ) → w ≢ t → at_tail t w q ≡ false
-unfolding at_tail
-off_tail t w q e = ne_eqb w t e
+at-tail t w q e = e
 
 -- ---- the loop
 
@@ -101,10 +76,11 @@ module _ (far : ℕ → ℕ → ℕ) (stop : ℕ → ℕ → Bool) where
         w.same ∙ ap (λ (k : ℕ). walk_from far stop k ws ms w.met prev at) z
 
     -- every node was stood on, and it would go on
-    pub ends-dry : length ws ≤ count → EndsSo ws ms m h false marks count
+    pub ends-dry : length ws ≤ count → EndsSo ws ms m h false marks (length ws)
     ends-dry ge =
         let z : length ws - count ≡ 0 = omega arith in
-        ends_so false marks count w.met w.painted w.counted
+        let all : length ws ≡ length w.met = let u = w.under in let c = w.counted in omega arith in
+        ends_so false marks (length ws) w.met w.painted all
         (w.same ∙ ap (λ (k : ℕ). walk_from far stop k ws ms w.met prev at) z ∙ step-dry far stop ws ms w.met prev at)
 
     module _ (lt : count < length ws) where

@@ -15,9 +15,9 @@ use Rattle.links.proofs.Laws.Xor.{xor_comm, xor-twice-l}
 use Rattle.words.proofs.Laws.Names.{null-is-none}
 use Rattle.words.proofs.Laws.Nodes.{all-reverse, distinct-reverse}
 use Rattle.answers.specs.declared.Refusal.TheVariants.{NoListing}
-use Rattle.answers.specs.declared.Answer.TheVariants.{Done, Refused}
+use Rattle.std.specs.Prelude.{Err, is_err}
 use Rattle.ends.specs.declared.Ends.{Ends}
-use Rattle.answers.specs.Answer.{is_refused}
+use Rattle.answers.specs.Answer.{done}
 use Rattle.ends.specs.Ends.{is_empty}
 use Rattle.ends.specs.Tests.{ends_hold}
 use Rattle.ends.proofs.Laws.Holds.{name-null, alone, listing-ends-hold}
@@ -159,7 +159,7 @@ list-sound ws ms e m a = ⊎_elim walks refused (true-or-false (can_walk ws ms e
 -- a listing is accepted, with its length, and its nodes are marked
 pub walk-accepts : (ws ms : List ℕ) (e : Ends) (xs : List ℕ) → pool_fits (length ws) ≡ true → length ms ≡ length ws
     → Listing bit_xor ws e.head.0 e.tail.0 xs
-    → walk_all ws ms e ≡ marking (paint (unmarked ms) 1 xs) (record { answer = Done; count = length xs })
+    → walk_all ws ms e ≡ marking (paint (unmarked ms) 1 xs) (record { answer = done; count = length xs })
 walk-accepts ws ms e xs f n l =
     let w = listing-walk ws (unmarked ms) e xs l (unmarked-clean ms xs) in
     walk-done ws ms e (sizes-fit ws ms f n) (listing-ends-hold ws e xs l) (ap (λ (r : Walk). r.ok) w)
@@ -170,12 +170,12 @@ pub record Walkable (ws ms : List ℕ) (e : Ends) : Type 0 where
   pub fits : pool_fits (length ws) ≡ true
   pub long : length ms ≡ length ws
   pub listing : Listing bit_xor ws e.head.0 e.tail.0 nodes
-  pub comes : walk_all ws ms e ≡ marking (paint (unmarked ms) 1 nodes) (record { answer = Done; count = length nodes })
+  pub comes : walk_all ws ms e ≡ marking (paint (unmarked ms) 1 nodes) (record { answer = done; count = length nodes })
 
 -- what is accepted has a listing
-pub walk-sound : (ws ms : List ℕ) (e : Ends) → (walk_all ws ms e).result.answer ≡ Done → Walkable ws ms e
+pub walk-sound : (ws ms : List ℕ) (e : Ends) → (walk_all ws ms e).result.answer ≡ done → Walkable ws ms e
 walk-sound ws ms e d =
-    let a = accepted ws ms e (ap is_refused d) in
+    let a = accepted ws ms e (ap is_err d) in
     let p = sizes ws ms a.sized in
     let l = walk-listing ws (unmarked ms) e a.held a.right in
     let nodes = reverse (walk_of ws (unmarked ms) e).met in
@@ -190,7 +190,7 @@ walk-sound ws ms e d =
 -- sizes that fit, ends that hold and no listing: 10, and no mark is left
 pub walk-refuses : (ws ms : List ℕ) (e : Ends) → sizes_fit ws ms ≡ true → ends_hold ws e ≡ true
     → ((xs : List ℕ) → Listing bit_xor ws e.head.0 e.tail.0 xs → ⊥)
-    → walk_all ws ms e ≡ marking (unmarked ms) (record { answer = Refused NoListing; count = length (walk_of ws (unmarked ms) e).met })
+    → walk_all ws ms e ≡ marking (unmarked ms) (record { answer = Err NoListing; count = length (walk_of ws (unmarked ms) e).met })
 walk-refuses ws ms e s h none =
     ⊎_elim (λ ok. absurd (none _ (walk-listing ws (unmarked ms) e h ok).listing)) (λ no. walk-fault ws ms e s h no)
     (true-or-false (walk_of ws (unmarked ms) e).ok)

@@ -7,8 +7,7 @@ use lib.Dec.{ltb, leb, eqb}
 use borrow.Author.Tests.{lt-ltb, le-leb, lt-leb, eq-eqb, ltb-true, leb-true, eqb-true}
 use Rattle.words.specs.declared.names.Node.{Node}
 use Rattle.words.specs.declared.names.Name.{Name}
-use Rattle.words.specs.declared.names.Found.{Found}
-use Rattle.words.specs.declared.names.Found.TheVariants.{At, Nothing}
+use Rattle.std.specs.Prelude.{Option, Some, None}
 use Rattle.words.specs.Names.{name, node_of, is_name, pool_limit, pool_fits, decoding}
 use Rattle.words.proofs.Laws.Cases.{both}
 
@@ -78,15 +77,15 @@ pub record Decoded (n : ℕ) (w : Name) (i : Node) : Type 0 where
   pub node : i.0 ≡ node_of w.0
   pub below : i.0 < n
 
-node_in : Found → ℕ
-node_in (At i) = i.0
-node_in Nothing = 0
+node_in : Option Node → ℕ
+node_in (Some i) = i.0
+node_in None = 0
 
-is_at : Found → Bool
-is_at (At i) = true
-is_at Nothing = false
+is_at : Option Node → Bool
+is_at (Some i) = true
+is_at None = false
 
-decoded-named : (n : ℕ) (w : Name) (f : Found) → decoding n w ≡ f → is_name n w.0 ≡ is_at f
+decoded-named : (n : ℕ) (w : Name) (f : Option Node) → decoding n w ≡ f → is_name n w.0 ≡ is_at f
 unfolding decoding is_at
 decoded-named n w f e = go (is_name n w.0) refl
   where
@@ -94,14 +93,14 @@ decoded-named n w f e = go (is_name n w.0) refl
     go true h = h ∙ ap is_at (rw h at e)
     go false h = h ∙ ap is_at (rw h at e)
 
-pub decoded : (n : ℕ) (w : Name) (i : Node) → decoding n w ≡ At i → Decoded n w i
+pub decoded : (n : ℕ) (w : Name) (i : Node) → decoding n w ≡ Some i → Decoded n w i
 unfolding decoding node_in is_at
 decoded n w i e =
-    let h : is_name n w.0 ≡ true = decoded-named n w (At i) e in
+    let h : is_name n w.0 ≡ true = decoded-named n w (Some i) e in
     let k : node_of w.0 ≡ i.0 = ap node_in (rw h at e) in
     let b = named-node n w.0 h in
     record { here = h; node = sym k; below = rw (← k) b }
 
-pub undecoded : (n : ℕ) (w : Name) → decoding n w ≡ Nothing → is_name n w.0 ≡ false
+pub undecoded : (n : ℕ) (w : Name) → decoding n w ≡ None → is_name n w.0 ≡ false
 unfolding is_at
-undecoded n w e = decoded-named n w Nothing e
+undecoded n w e = decoded-named n w None e

@@ -1,14 +1,8 @@
 -- `walk_from` meets its contract. After each turn the walk from the head is the walk from here, over the nodes that are left. Assumes nothing.
-use Prim.Native.Nat.{◌-◌}
-use mathlib.Core.Path.{◌≡◌}
 use lib.Bits.{bit_xor}
-use lib.ListN.{length}
 use Rattle.walk.specs.Walk.{at_tail}
 use Rattle.walk.proofs.Laws.Loop.{Walks}
 use Rattle.walk.proofs.step.walk_from.Given as goal
 
 abbrev pub invariant-loop-count : goal.invariant-loop-count
-invariant-loop-count l = (length l.marks ≡ length l.initial.marks) × Walks bit_xor (at_tail l.tail.0) l.words l.initial.marks l.mark l.initial.at.0 l.marks l.at.0 l.prev.0 l.count
-
-abbrev pub decreases-loop-count : goal.decreases-loop-count
-decreases-loop-count l = length l.words - l.count
+invariant-loop-count l = Walks bit_xor (at_tail l.ends.tail.0) l.words l.initial.marks l.mark l.initial.at.0 l.marks l.at.0 l.prev.0 l.count
