@@ -3,7 +3,11 @@
 // A read or a write that fails ends it, and is told in one line on standard error.
 #![tactic(auto)]
 
-use batch_desk::BatchDesk;
+ghost use Rattle.std.specs.Prelude.{◌≡◌, ℕ, IfOk, drop};
+ghost use Rattle.batch_desk.specs.Step.{kept_of};
+ghost use Rattle.batch_desk.specs.Run.{running, run_of, finish_of};
+
+use batch_desk::{BatchDesk, Ran};
 use lines::line::Line;
 use std::io::{self, ErrorKind, Read, Stdout, Write};
 use std::process::ExitCode;
@@ -31,7 +35,9 @@ fn interrupted(error: &io::Error) -> bool {
 }
 
 // One write of the bytes, of which it may take a part: the bytes that are left.
-fn put(mut output: Stdout, bytes: &[u8]) -> io::Result<&[u8]> {
+fn put(mut output: Stdout, bytes: &[u8]) -> io::Result<&[u8]>
+    ensures { IfOk result (λ left. (n : ℕ) × (left.now ≡ drop n bytes.now)) }
+{
     match output.write(bytes) {
         Ok(0) => Err(io::Error::from(ErrorKind::WriteZero)),
         Ok(n) => Ok(&bytes[n..]),
@@ -61,6 +67,20 @@ fn answered(output: Stdout, out: &[u8], wrote: usize) -> Result<(), Failure> {
     }
 }
 
+// What was read is run from where the run goes on, and answered in front.
+fn run(at: Next, input: &[u8], out: &mut [u8; ROOM]) -> Ran
+    ensures { running out.new (kept_of result.desk) result.line result.wrote ≡ run_of (kept_of at.desk) at.line input.now out.old }
+{
+    batch_desk::run(at.desk, at.line, input, out)
+}
+
+// The answer to a line that is not ended when the input is, in front.
+fn finish(at: Next, out: &mut [u8; ROOM]) -> Ran
+    ensures { running out.new (kept_of result.desk) result.line result.wrote ≡ finish_of (kept_of at.desk) at.line out.old 0 }
+{
+    batch_desk::finish(at.desk, at.line, out, 0)
+}
+
 // One read and its answers; at the end of the input, the answer to a line that is not ended, and nothing is next. A read that
 // failed ends the run, unless a signal came. The line that is not ended is not run then.
 fn turn(rt: HostRuntime, at: Next, out: &mut [u8; ROOM]) -> Result<Option<Next>, Failure> {
@@ -71,11 +91,11 @@ fn turn(rt: HostRuntime, at: Next, out: &mut [u8; ROOM]) -> Result<Option<Next>,
         Err(e) => return Err(Failure::Read(e)),
     };
     if n == 0 {
-        let r = batch_desk::finish(at.desk, at.line, out, 0);
+        let r = finish(at, out);
         answered(rt.stdout(), out, r.wrote)?;
         return Ok(None);
     }
-    let r = batch_desk::run(at.desk, at.line, &buf[..n], out);
+    let r = run(at, &buf[..n], out);
     answered(rt.stdout(), out, r.wrote)?;
     Ok(Some(Next {
         desk: r.desk,

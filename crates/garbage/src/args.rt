@@ -1,4 +1,6 @@
 // Arguments of any value, pools and marks, taken from a line.
+ghost use Rattle.std.specs.Prelude.{◌≡◌, take};
+
 use crate::line::{Argument, number};
 use cursor::Cursor;
 use ends::Ends;
@@ -101,6 +103,8 @@ pub(crate) fn cut<T>(s: &mut [T], n: usize) -> &mut [T] {
 }
 
 // The first so many, or all. (`pools_cases` has its own: a crate for the two would be a library to keep, for a line.)
-pub(crate) fn first<T>(s: &[T], n: usize) -> &[T] {
+pub(crate) fn first<T>(s: &[T], n: usize) -> &[T]
+    ensures { result.now ≡ take n s.now }
+{
     &s[..n.min(s.len())]
 }

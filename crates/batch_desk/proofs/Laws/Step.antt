@@ -2,10 +2,10 @@
 use Prim.Native.Nat.{ℕ, ◌<◌}
 use mathlib.Core.Path.{◌≡◌, refl, sym, ap, ◌∙◌}
 use mathlib.Core.Bool.{Bool, true, false, ◌&&◌, ◌||◌, cond}
-use mathlib.Core.List.{List}
+use mathlib.Core.List.{List, map}
 use native.Mathlib.Omega.{arith}
 use lib.Dec.{leb, ltb, eqb}
-use lib.ListN.{length, set}
+use lib.ListN.{length, set, length-map}
 use borrow.Author.Tests.{leb-true, leb-false, lt-ltb, le-ltb, eq-eqb, ne_eqb}
 use Rattle.std.specs.Prelude.{Option, Some, None}
 use Rattle.words.specs.Names.{directory_limit, directory_fits}
@@ -59,6 +59,10 @@ pub unread-marks : (ws ms : List ℕ) (r q : Row) (o : Order) → (o.code ≡ 13
     → unmarking (command ws ms r q o) ≡ unmarking (command ws no_marks r q o)
 unfolding command
 unread-marks ws ms r q o h = rw (ne_eqb o.code 13 h)
+
+-- an array of a struct has the length that its type says
+pub known : {A B : Type 0} (f : A → B) (xs : List A) (n : ℕ) → length (map f xs) ≡ n → length xs ≡ n
+known f xs n h = sym (length-map xs f) ∙ h
 
 -- ---- what a line comes to
 

@@ -24,18 +24,35 @@ count-rows (a ∷ b ∷ c ∷ d ∷ e ∷ ws) = let i = count-rows ws in omega a
 list_on : (i : ℕ) → 5 * suc i ≡ suc (suc (suc (suc (suc (5 * i)))))
 list_on i = omega arith
 
--- a list that is there has the five words of its part
-pub row-there : (ws : List ℕ) (n i : ℕ) (x : List ℕ) → n ≡ length (rows_of ws) → i < n → get_or (first_chunks 5 n ws) i [] ≡ x
+further : (i k : ℕ) → 5 * suc i + k ≡ suc (suc (suc (suc (suc (5 * i + k)))))
+further i k = omega arith
+
+-- a list that is there has its five words in the slice
+pub row-there : (ws : List ℕ) (i : ℕ) → i < length (rows_of ws)
+    → get_or (rows_of ws) i fresh_row
+    ≡ row_of (get_or ws (5 * i) 0) (get_or ws (5 * i + 1) 0) (get_or ws (5 * i + 2) 0) (get_or ws (5 * i + 3) 0) (get_or ws (5 * i + 4) 0)
+unfolding rows_of
+row-there [] i h = absurd (omega arith)
+row-there (a ∷ []) i h = absurd (omega arith)
+row-there (a ∷ b ∷ []) i h = absurd (omega arith)
+row-there (a ∷ b ∷ c ∷ []) i h = absurd (omega arith)
+row-there (a ∷ b ∷ c ∷ d ∷ []) i h = absurd (omega arith)
+row-there (a ∷ b ∷ c ∷ d ∷ e ∷ ws) zero h = refl
+row-there (a ∷ b ∷ c ∷ d ∷ e ∷ ws) (suc i) h =
+    rw (further i 1, further i 2, further i 3, further i 4, list_on i) (row-there ws i (omega arith))
+
+-- and it has the five words of its part of the slice
+pub part-there : (ws : List ℕ) (n i : ℕ) (x : List ℕ) → n ≡ length (rows_of ws) → i < n → get_or (first_chunks 5 n ws) i [] ≡ x
     → row_of (get_or x 0 0) (get_or x 1 0) (get_or x 2 0) (get_or x 3 0) (get_or x 4 0) ≡ get_or (rows_of ws) i fresh_row
 unfolding rows_of
-row-there ws zero i x e h p = absurd (omega arith)
-row-there [] (suc n) i x e h p = absurd (omega arith)
-row-there (a ∷ []) (suc n) i x e h p = absurd (omega arith)
-row-there (a ∷ b ∷ []) (suc n) i x e h p = absurd (omega arith)
-row-there (a ∷ b ∷ c ∷ []) (suc n) i x e h p = absurd (omega arith)
-row-there (a ∷ b ∷ c ∷ d ∷ []) (suc n) i x e h p = absurd (omega arith)
-row-there (a ∷ b ∷ c ∷ d ∷ f ∷ ws) (suc n) zero x e h p = rw (← p) refl
-row-there (a ∷ b ∷ c ∷ d ∷ f ∷ ws) (suc n) (suc i) x e h p = row-there ws n i x (omega arith) (omega arith) p
+part-there ws zero i x e h p = absurd (omega arith)
+part-there [] (suc n) i x e h p = absurd (omega arith)
+part-there (a ∷ []) (suc n) i x e h p = absurd (omega arith)
+part-there (a ∷ b ∷ []) (suc n) i x e h p = absurd (omega arith)
+part-there (a ∷ b ∷ c ∷ []) (suc n) i x e h p = absurd (omega arith)
+part-there (a ∷ b ∷ c ∷ d ∷ []) (suc n) i x e h p = absurd (omega arith)
+part-there (a ∷ b ∷ c ∷ d ∷ f ∷ ws) (suc n) zero x e h p = rw (← p) refl
+part-there (a ∷ b ∷ c ∷ d ∷ f ∷ ws) (suc n) (suc i) x e h p = part-there ws n i x (omega arith) (omega arith) p
 
 -- lists that have not changed leave the slice as it was
 pub laid-own : (ws : List ℕ) → laid (rows_of ws) ws ≡ ws

@@ -4,7 +4,7 @@ use Prim.Native.Nat.{ℕ}
 use mathlib.Core.Path.{◌∙◌, sym, ap}
 use mathlib.Core.List.{List, []}
 use lib.ListN.{get_or}
-use Rattle.rows.proofs.Laws.Rows.{count-rows, no_row, row-there}
+use Rattle.rows.proofs.Laws.Rows.{count-rows, no_row, part-there}
 use Rattle.rows.proofs.row_at.Goals as goal
 
 pub returns-in_default : goal.returns-in_default
@@ -18,4 +18,4 @@ returns c =
     let there = c.in-Some.ensures.lookup.3 in
     let words = there.1 [] ∙ ap (λ (l : List (List ℕ)). get_or l i []) c.as_chunks.ensures.front in
     rw (c.new.ensures, c.new-2.ensures)
-    (row-there c.args.lists.now _ i _ (sym (count-rows c.args.lists.now)) (let h = there.0 in let e = c.as_chunks.ensures.front_len in omega arith) (sym words))
+    (part-there c.args.lists.now _ i _ (sym (count-rows c.args.lists.now)) (let h = there.0 in let e = c.as_chunks.ensures.front_len in omega arith) (sym words))
